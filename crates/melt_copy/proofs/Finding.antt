@@ -1,8 +1,9 @@
 -- A forwarding that finds one object more.
 use Rattle.std.proofs.Common.{◌≡◌, ◌≢◌, ℕ, ◌+◌, ◌<◌, ◌≤◌, ◌^◌, List, [], ◌∷◌, ◌++◌, length, take, refl, sym, subst, ap}
-use Rattle.std.proofs.Common.{◌∙◌, arith, ◌⊎◌, inl, inr, get_or, get_or-set_same, get_or-set_other}
+use Rattle.std.proofs.Common.{◌∙◌, ◌/◌, arith, ◌⊎◌, inl, inr, get_or}
 use Rattle.std.proofs.lemmas.List.{take-append-le, length-set, get_or_default}
 use Rattle.std.proofs.lemmas.List.Sums.{sum-map, sum_by_push}
+use Rattle.std.proofs.lemmas.Bool.{cases_order}
 use Rattle.std.proofs.lemmas.Bool.Decides.{eqb_tells}
 use Rattle.std.proofs.lemmas.Option.{slice_get_within}
 use Rattle.std.proofs.Math.Seq.{take-append_seam}
@@ -17,7 +18,8 @@ use Rattle.melt_scion.specs.State.{State, HeaderAt, address_in, Reached}
 use Rattle.melt_copy.specs.declared.forwarding.Relocation.{Relocation}
 use Rattle.melt_copy.specs.declared.forwarding.Forwarding.{Forwarding}
 use Rattle.melt_copy.specs.Moving.{words_in, IsRelocation, Relocates}
-use Rattle.melt_copy.specs.Tracking.{goes, Tracks, TracksAt, TracksFor}
+use Rattle.melt_copy.specs.Tracking.{goes, entry_of, looked_up, Grows, Tracks, TracksAt, TracksFor}
+use Rattle.melt_copy.proofs.Entries.{known_here, unknown_both, written_here, written_others}
 use Rattle.melt_copy.proofs.Places.{place_below}
 use Rattle.melt_copy.proofs.Sources.{found_words}
 
@@ -67,12 +69,39 @@ relocates_push {s} {f} g {moves} m {header} forwarding reached starts shape to u
 
 -- an object that is found lies within the words in use
 pub at_within : (space : SpaceWords) (s : State) (forwarding : Forwarding) (address : ℕ)
-    → TracksAt space s forwarding address → (1 ≤ address) × (address < length forwarding.addresses.items)
+    → TracksAt space s forwarding address → (1 ≤ address) × (address / 2 < length forwarding.entries.items)
     × (address ≤ space.used)
 at_within space s forwarding address at =
     let object = at.tracks.whole.objects address at.reached in
     let below : address + cost_of object.0.shape ≤ s.free = object.1.below in
     (object.1.first, omega (arith, below, at.tracks.free, at.tracks.table), omega (arith, below, at.tracks.free))
+
+-- no object that was found overlaps one that can be found, so none starts at the other address of the two
+pub none_beside : (space : SpaceWords) (s : State) (forwarding : Forwarding) (address : ℕ)
+    → TracksAt space s forwarding address → (a : ℕ) → a ≢ address → a / 2 ≡ address / 2 → goes forwarding a ≡ 0
+none_beside space s forwarding address at a other pair = elim (eqb_tells (goes forwarding a) 0) [
+  | inl none ↦ none.1
+  | inr known ↦
+      let move = at.tracks.holds.only a known.1 in
+      let there = subst (Reached s) move.3 (at.tracks.holds.whole move.0 move.1 move.2).reached in
+      let first = at.tracks.whole.objects a there in
+      let second = at.tracks.whole.objects address at.reached in
+      elim (cases_order a address) [
+        | inl same ↦ absurd (other same)
+        | inr differ ↦ elim differ [
+          | inl below ↦ absurd (omega (
+            arith,
+            pair,
+            at.tracks.whole.apart a address first.0 there at.reached first.1.starts below,
+          ))
+          | inr above ↦ absurd (omega (
+            arith,
+            pair,
+            at.tracks.whole.apart address a second.0 at.reached there second.1.starts above,
+          ))
+        ]
+      ]
+]
 
 -- the header of an object that is found, as the space has it
 pub at_header : (space : SpaceWords) (s : State) (forwarding : Forwarding) (address : ℕ)
@@ -90,7 +119,7 @@ at_header space s forwarding address at =
 pub relocates_found : (space : SpaceWords) (s : State) (forwarding : Forwarding) (address : ℕ) (shape : Shape)
     → TracksAt space s forwarding address → goes forwarding address ≡ 0
     → ((h : Header) → IsHeader h → word_at space address ≡ header_word h → shape ≡ h.shape)
-    → Relocates s (slice_index (slice_set forwarding.addresses.items address forwarding.next))
+    → Relocates s (looked_up (slice_set forwarding.entries.items (address / 2) (entry_of address forwarding.next)))
     (forwarding.moves.items ++ (record { from = address; to = forwarding.next; shape = shape }) ∷ [])
     (forwarding.next + cost_of shape)
 relocates_found space s forwarding address shape at unknown told =
@@ -99,10 +128,12 @@ relocates_found space s forwarding address shape at unknown told =
     let same : shape ≡ header.shape = told header object.1.starts.in_range
     (sym (at.tracks.word address) ∙ object.1.starts.word) in
     let m : Relocation = record { from = address; to = forwarding.next; shape = shape } in
-    relocates_push (slice_index (slice_set forwarding.addresses.items address forwarding.next)) m at.tracks.holds
-    at.reached object.1.starts (sym same) refl unknown
-    (get_or-set_same forwarding.addresses.items address forwarding.next 0 (at_within space s forwarding address at).1)
-    (λ a other. get_or-set_other forwarding.addresses.items address a forwarding.next 0 other)
+    let within = (at_within space s forwarding address at).1 in
+    relocates_push (looked_up (slice_set forwarding.entries.items (address / 2) (entry_of address forwarding.next))) m
+    at.tracks.holds at.reached object.1.starts (sym same) refl unknown
+    (written_here forwarding.entries.items address forwarding.next within)
+    (λ a other. written_others forwarding.entries.items address forwarding.next a within
+    (none_beside space s forwarding address at) other)
 
 -- what is found is within the words in use
 pub next_fits : (space : SpaceWords) (s : State) (forwarding : Forwarding) → Tracks space s forwarding
@@ -129,7 +160,7 @@ used_small space s forwarding tracks = omega (arith, tracks.whole.small, tracks.
 pub tracks_found : (space : SpaceWords) (s : State) (forwarding new : Forwarding) (address : ℕ) (shape : Shape)
     → TracksAt space s forwarding address → goes forwarding address ≡ 0
     → ((h : Header) → IsHeader h → word_at space address ≡ header_word h → shape ≡ h.shape)
-    → new.addresses.items ≡ slice_set forwarding.addresses.items address forwarding.next
+    → new.entries.items ≡ slice_set forwarding.entries.items (address / 2) (entry_of address forwarding.next)
     → new.moves.items ≡ forwarding.moves.items ++ (record { from = address; to = forwarding.next; shape = shape }) ∷ []
     → new.next ≡ forwarding.next + cost_of shape → Tracks space s new
 tracks_found space s forwarding new address shape at unknown told forward moves next = record {
@@ -137,13 +168,44 @@ tracks_found space s forwarding new address shape at unknown told forward moves 
   word = at.tracks.word;
   size = at.tracks.size;
   free = at.tracks.free;
-  holds = subst (λ (fs : List ℕ). Relocates s (slice_index fs) new.moves.items new.next) (sym forward)
+  holds = subst (λ (es : List ℕ). Relocates s (looked_up es) new.moves.items new.next) (sym forward)
       (subst (λ (ms : List Relocation).
-      Relocates s (slice_index (slice_set forwarding.addresses.items address forwarding.next)) ms new.next) (sym moves)
-      (subst (Relocates s (slice_index (slice_set forwarding.addresses.items address forwarding.next))
+      Relocates s (looked_up (slice_set forwarding.entries.items (address / 2) (entry_of address forwarding.next))) ms
+      new.next) (sym moves)
+      (subst
+      (Relocates s (looked_up (slice_set forwarding.entries.items (address / 2) (entry_of address forwarding.next)))
       (forwarding.moves.items ++ (record { from = address; to = forwarding.next; shape = shape }) ∷ [])) (sym next)
       (relocates_found space s forwarding address shape at unknown told)));
-  table = ap length forward ∙ (length-set forwarding.addresses.items address forwarding.next ∙ at.tracks.table);
+  table = ap length forward
+      ∙ (length-set forwarding.entries.items (address / 2) (entry_of address forwarding.next) ∙ at.tracks.table);
+}
+
+-- a place behind the first word is not 0
+pub next_there : (space : SpaceWords) (s : State) (forwarding : Forwarding) → Tracks space s forwarding
+    → forwarding.next ≢ 0
+next_there space s forwarding tracks = let behind = tracks.holds.behind in omega (arith, behind)
+
+-- the object has the next place then
+pub found_here : (space : SpaceWords) (s : State) (forwarding : Forwarding) {entries : List ℕ} (address : ℕ)
+    → TracksAt space s forwarding address
+    → entries ≡ slice_set forwarding.entries.items (address / 2) (entry_of address forwarding.next)
+    → looked_up entries address ≡ forwarding.next
+found_here space s forwarding address at is = ap (λ (es : List ℕ). looked_up es address) is
+    ∙ written_here forwarding.entries.items address forwarding.next (at_within space s forwarding address at).1
+
+-- what was found before stays
+pub grows_found : (space : SpaceWords) (s : State) (forwarding new : Forwarding) (address : ℕ) (m : Relocation)
+    → TracksAt space s forwarding address → goes forwarding address ≡ 0
+    → new.entries.items ≡ slice_set forwarding.entries.items (address / 2) (entry_of address forwarding.next)
+    → new.moves.items ≡ forwarding.moves.items ++ m ∷ [] → Grows forwarding new
+grows_found space s forwarding new address m at unknown entries moves = record {
+  rest = m ∷ [];
+  moves = moves;
+  goes = λ a known.
+      ap (λ (es : List ℕ). looked_up es a) entries
+      ∙ written_others forwarding.entries.items address forwarding.next a (at_within space s forwarding address at).1
+      (none_beside space s forwarding address at)
+      (λ (same : a ≡ address). known (ap (goes forwarding) same ∙ unknown));
 }
 
 pub find_only : (old : List Relocation) {new : List Relocation} (address to : ℕ) (shape : Shape)
@@ -156,13 +218,29 @@ find_only old address to shape is k m at =
       | inr last ↦ inr (ap (λ (x : Relocation). x.from) (sym last.1))
     ]
 
-pub not_known : (forward : List ℕ) (address known : ℕ) → known ≡ get_or forward address known → known ≡ 0
-    → slice_index forward address ≡ 0
-not_known forward address known is nought = sym (subst (λ (k : ℕ). k ≡ get_or forward address k) nought is)
+-- the entry of an object, as the table has it
+entry_is : (space : SpaceWords) (s : State) (forwarding : Forwarding) (address entry : ℕ)
+    → TracksAt space s forwarding address → entry ≡ get_or forwarding.entries.items (address / 2) entry
+    → entry / 2 ≡ slice_index forwarding.entries.items (address / 2) / 2
+entry_is space s forwarding address entry at is = ap (λ (n : ℕ). n / 2) (is
+    ∙ get_or_default forwarding.entries.items (address / 2) entry 0 (at_within space s forwarding address at).1)
 
-pub is_known : (forward : List ℕ) (address known : ℕ) → address < length forward → known ≡ get_or forward address known
-    → known ≡ slice_index forward address
-is_known forward address known within is = is ∙ get_or_default forward address known 0 within
+-- an object was not found whose entry has no new address
+pub not_known : (space : SpaceWords) (s : State) (forwarding : Forwarding) (address entry known : ℕ)
+    → TracksAt space s forwarding address → entry ≡ get_or forwarding.entries.items (address / 2) entry
+    → known ≡ entry / 2 → known ≡ 0 → goes forwarding address ≡ 0
+not_known space s forwarding address entry known at is half none =
+    unknown_both forwarding.entries.items address
+    (sym (entry_is space s forwarding address entry at is) ∙ (sym half ∙ none))
+
+-- an object was found whose entry has a new address
+pub is_known : (space : SpaceWords) (s : State) (forwarding : Forwarding) (address entry known : ℕ)
+    → TracksAt space s forwarding address → entry ≡ get_or forwarding.entries.items (address / 2) entry
+    → known ≡ entry / 2 → known ≢ 0 → known ≡ goes forwarding address
+is_known space s forwarding address entry known at is half some =
+    let there = entry_is space s forwarding address entry at is in
+    half ∙ (there ∙ sym (known_here forwarding.entries.items address (none_beside space s forwarding address at)
+    (λ (none : slice_index forwarding.entries.items (address / 2) / 2 ≡ 0). some (half ∙ (there ∙ none)))))
 
 -- the place of an object that was found is an address
 pub known_small : (space : SpaceWords) (s : State) (forwarding : Forwarding) (address : ℕ) → Tracks space s forwarding

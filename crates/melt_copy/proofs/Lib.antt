@@ -9,6 +9,7 @@ pub mod Whole
 pub mod Counting
 pub mod Counted
 pub mod Moved
+pub mod Entries
 pub mod Finding
 pub mod Growth
 pub mod Following

@@ -1,7 +1,7 @@
 -- What registers, globals and live scions of a heap name is found first, in this order.
-use Rattle.std.proofs.Common.{◌≡◌, ◌≢◌, ℕ, ◌+◌, ◌-◌, List, [], length, take, replicate, refl, sym, subst, ap, ◌∙◌}
+use Rattle.std.proofs.Common.{◌≡◌, ◌≢◌, ℕ, ◌+◌, ◌-◌, ◌/◌, List, [], length, take, replicate, refl, sym, subst, ap, ◌∙◌}
 use Rattle.std.proofs.Common.{arith, inl, inr}
-use Rattle.std.specs.Prelude.{Option, None, Some, slice_get, slice_index}
+use Rattle.std.specs.Prelude.{Option, None, Some, slice_get}
 use Rattle.std.proofs.lemmas.List.{length-replicate, take_all}
 use Rattle.std.proofs.lemmas.Option.{same_Some, slice_get_within}
 use Rattle.melt_space.specs.Space.{IsSpace}
@@ -18,9 +18,9 @@ use Rattle.melt_copy.specs.declared.forwarding.Forwarding.{Forwarding}
 use Rattle.melt_copy.specs.declared.live.LiveSet.{LiveSet}
 use Rattle.melt_copy.specs.Moving.{IsWhole, Relocates, AreHeld, words_in}
 use Rattle.melt_copy.specs.Tracking.{goes, Tracks, TracksIn, TracksThreads, TracksScions, FindsThreads, FindsScions}
-use Rattle.melt_copy.specs.Tracking.{Grows}
+use Rattle.melt_copy.specs.Tracking.{Grows, looked_up}
 use Rattle.melt_copy.specs.Reaching.{IsFront, FindsFront}
-use Rattle.melt_scion.proofs.Starting.{nothing_at}
+use Rattle.melt_copy.proofs.Entries.{nothing_looked_up}
 use Rattle.melt_copy.proofs.Whole.{formed_whole}
 use Rattle.melt_copy.proofs.Growth.{Grows-more, stays_there}
 use Rattle.melt_copy.proofs.Held.{still_known}
@@ -35,20 +35,21 @@ none_there : (ms : List Relocation) (k : ℕ) (m : Relocation) → ms ≡ [] →
 none_there ms k m empty at = let below = slice_get_within ms k m at in let nought =
     ap length empty in omega (arith, below, nought)
 
-pub no_moves : (s : State) (forwarding : Forwarding) (used : ℕ) → forwarding.addresses.items ≡ replicate (used + 1) 0
+pub no_moves : (s : State) (forwarding : Forwarding) (used : ℕ) → forwarding.entries.items ≡ replicate (used / 2 + 1) 0
     → forwarding.moves.items ≡ [] → forwarding.next ≡ 1
     → Relocates s (goes forwarding) forwarding.moves.items forwarding.next
 no_moves s forwarding used forward moves next = record {
   whole = λ k m at. absurd (none_there forwarding.moves.items k m moves at);
   found = λ k m at. absurd (none_there forwarding.moves.items k m moves at);
-  only = λ a known. absurd (known (ap (λ (fs : List ℕ). slice_index fs a) forward ∙ nothing_at (used + 1) a));
+  only = λ a known.
+      absurd (known (ap (λ (es : List ℕ). looked_up es a) forward ∙ nothing_looked_up (used / 2 + 1) a));
   places = λ k m at. absurd (none_there forwarding.moves.items k m moves at);
   behind = next ∙ ap (λ (ms : List Relocation). 1 + words_in ms) (sym moves);
 }
 
 -- before the first object is found
 pub tracks_start : (heap : Heap) (held : List Registers) (disk : OnDisk) (forwarding : Forwarding) (used : ℕ)
-    → IsWhole (state_of heap held disk) → used ≡ heap.space.used → forwarding.addresses.items ≡ replicate (used + 1) 0
+    → IsWhole (state_of heap held disk) → used ≡ heap.space.used → forwarding.entries.items ≡ replicate (used / 2 + 1) 0
     → forwarding.moves.items ≡ [] → forwarding.next ≡ 1
     → TracksThreads heap.space (state_of heap held disk) forwarding held
 tracks_start heap held disk forwarding used whole same forward moves next = record {
@@ -58,7 +59,7 @@ tracks_start heap held disk forwarding used whole same forward moves next = reco
     size = refl;
     free = refl;
     holds = no_moves (state_of heap held disk) forwarding used forward moves next;
-    table = ap length forward ∙ (length-replicate (used + 1) 0 ∙ ap (λ (n : ℕ). n + 1) same);
+    table = ap length forward ∙ (length-replicate (used / 2 + 1) 0 ∙ ap (λ (n : ℕ). n / 2 + 1) same);
   };
   reached = λ t r full. in_register t r (register_in held t r) refl (omega (arith, full));
 }
@@ -67,7 +68,7 @@ tracks_start heap held disk forwarding used whole same forward moves next = reco
 pub record Begins (heap : Heap) (start : Forwarding) (used : ℕ) : Type 0 where
   pub space : IsSpace heap.space
   pub used_is : used ≡ heap.space.used
-  pub addresses : start.addresses.items ≡ replicate (used + 1) 0
+  pub entries : start.entries.items ≡ replicate (used / 2 + 1) 0
   pub moves : start.moves.items ≡ []
   pub next : start.next ≡ 1
 
@@ -76,7 +77,7 @@ module _ (heap : Heap) (held : List Registers) (start : Forwarding) (used : ℕ)
       → TracksThreads heap.space (state_of heap held disk) start held
   tracks_begun maps disk formed =
       tracks_start heap held disk start used (whole_heap maps heap held disk begins.space formed) begins.used_is
-      begins.addresses begins.moves begins.next
+      begins.entries begins.moves begins.next
 
   -- a state that the heap shows, in which the objects in registers can be found
   pub may_find_held : IsFormed heap held → (s : State) × TracksThreads heap.space s start held

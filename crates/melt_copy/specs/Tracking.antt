@@ -1,6 +1,6 @@
 -- What the parts of a copying collection do, over every state that has the words of the space.
-use Rattle.std.specs.Prelude.{◌≡◌, ◌≢◌, ℕ, zero, suc, ◌+◌, ◌<◌, nat_lt, List, ◌++◌, length, take, slice_get}
-use Rattle.std.specs.Prelude.{slice_index, Some, ◌⊎◌}
+use Rattle.std.specs.Prelude.{◌≡◌, ◌≢◌, ℕ, zero, suc, ◌+◌, ◌*◌, ◌/◌, ◌%◌, ◌<◌, ◌==◌, nat_lt, if◌then◌else◌, List, ◌++◌}
+use Rattle.std.specs.Prelude.{length, take, slice_get, slice_index, Some, ◌⊎◌}
 use Rattle.melt_model.specs.declared.reports.Phase.{Phase}
 use Rattle.melt_space.specs.Space.{SpaceWords, word_at}
 use Rattle.melt_scion.specs.State.{State, RefersTo, Reached}
@@ -12,9 +12,21 @@ use Rattle.melt_copy.specs.declared.forwarding.Relocation.{Relocation}
 use Rattle.melt_copy.specs.declared.forwarding.Forwarding.{Forwarding}
 use Rattle.melt_copy.specs.Moving.{IsWhole, IsRefWord, IsRelocation, Relocates, ObjectMoves, words_in}
 
+-- the entry of an object that moves from one address to another: twice the new one, and the parity of the old one
+abbrev pub entry_of : ℕ → ℕ → ℕ
+entry_of from to = 2 * to + from % 2
+
+-- the new address that an entry tells for an address of its pair, 0 where it is for the other one
+abbrev pub target_of : ℕ → ℕ → ℕ
+target_of entry address = if entry % 2 == address % 2 then entry / 2 else 0
+
+-- where a table with an entry for each two addresses sends an address
+unfoldable pub looked_up : List ℕ → ℕ → ℕ
+looked_up entries address = target_of (slice_index entries (address / 2)) address
+
 -- where the forwarding sends an address
 abbrev pub goes : Forwarding → ℕ → ℕ
-goes forwarding = slice_index forwarding.addresses.items
+goes forwarding = looked_up forwarding.entries.items
 
 -- The state has the words of the space, and the forwarding is that of objects that were found in it.
 pub record Tracks (space : SpaceWords) (s : State) (forwarding : Forwarding) : Type 0 where
@@ -23,7 +35,7 @@ pub record Tracks (space : SpaceWords) (s : State) (forwarding : Forwarding) : T
   pub size : s.base.size ≡ length space.list
   pub free : s.free ≡ space.used + 1
   pub holds : Relocates s (goes forwarding) forwarding.moves.items forwarding.next
-  pub table : length forwarding.addresses.items ≡ space.used + 1
+  pub table : length forwarding.entries.items ≡ space.used / 2 + 1
 
 -- what was found stays
 pub record Grows (old new : Forwarding) : Type 0 where

@@ -1,20 +1,24 @@
 //! Where each object that a collection finds goes.
 //!
-//! The objects that were found stand in a list, in the order in which they are to lie from word 1 on. A table has the
-//! new address of each at its old one, and 0 everywhere else. Both only grow: an object keeps the place that it got
-//! when it was found first, so a reference that was moved stays right while more objects are found, and an object to
-//! which many references are is copied once.
+//! The objects that were found stand in a list, in the order in which they are to lie from word 1 on. A table tells the
+//! new address of each by its old one, and 0 for every other address. Both only grow: an object keeps the place that it
+//! got when it was found first, so a reference that was moved stays right while more objects are found, and an object
+//! to which many references are is copied once.
 //!
 //! Objects lie apart from each other among the words in use. So those that were found take no more words than these,
 //! whatever refers to what: each new address is one of the space, and the copy has room in it.
-ghost use Rattle.std.specs.Prelude.{◌≡◌, ◌≢◌, ℕ, ◌+◌, ◌^◌, ◌<◌, ◌≤◌, ◌⊎◌, [], slice_get, slice_index, length};
+//!
+//! Each takes two words at least. So of two addresses `2 * k` and `2 * k + 1` an object starts at one at most, and the
+//! table has one entry for both: the new address, and in the lowest bit which of the two it is for. Half as many
+//! entries are half as much memory to clear for each collection.
+ghost use Rattle.std.specs.Prelude.{◌≡◌, ◌≢◌, ℕ, ◌+◌, ◌/◌, ◌^◌, ◌<◌, ◌≤◌, ◌⊎◌, [], slice_get, slice_index, length};
 ghost use Rattle.std.specs.Prelude.{replicate, Some, IfOk, OnOk};
 ghost use Rattle.melt_word.specs.Words.{IsAddress, IsRef};
 ghost use Rattle.melt_scion.specs.State.{State, RefersTo};
 ghost use Rattle.melt_copy.specs.declared.forwarding.Relocation.{Relocation};
 ghost use Rattle.melt_scion.specs.Moves.{kept_tag};
 ghost use Rattle.melt_copy.specs.Moving.{WordMoves};
-ghost use Rattle.melt_copy.specs.Tracking.{Grows, Tracks, TracksAt, TracksFor, goes};
+ghost use Rattle.melt_copy.specs.Tracking.{Grows, Tracks, TracksAt, TracksFor, entry_of, goes, target_of};
 
 use melt_model::{NoMemory, Phase};
 use melt_space::Space;
@@ -32,11 +36,33 @@ pub struct Relocation {
 /// The objects that were found so far, in the order in which they are to stand from word 1 on.
 #[derive(Debug, Drop)]
 pub struct Forwarding {
-    /// The new address of the object at each address from 0 on, 0 where none was found.
-    pub addresses: Vec<u32>,
+    /// An entry for each two addresses from 0 on, 0 where no object was found at either.
+    pub entries: Vec<u32>,
     pub moves: Vec<Relocation>,
     /// The first place behind the objects that were found.
     pub next: u32,
+}
+
+/// The entry of an object that moves from one address to another. It stands in the table alone, and is no word of a
+/// heap.
+#[inline(always)]
+fn entry(from: u32, to: u32) -> u32
+    requires { to < 2 ^ 30 }
+    ensures { result ≡ entry_of from to }
+{
+    2 * to + from % 2
+}
+
+/// The new address that an entry tells for one of its two addresses, 0 where it is for the other.
+#[inline(always)]
+fn target(entry: u32, address: u32) -> u32
+    ensures { result ≡ target_of entry address }
+{
+    if entry % 2 == address % 2 {
+        entry / 2
+    } else {
+        0
+    }
 }
 
 /// A clean reference to an address, as a collection of the phase leaves it.
@@ -55,12 +81,12 @@ impl Forwarding {
     /// A forwarding without objects, for a space of which so many words are in use.
     pub fn new(alloc: Global, used: u32) -> Result<Forwarding, NoMemory>
         requires { used < 2 ^ 30 }
-        ensures addresses { IfOk result (λ forwarding. forwarding.addresses.items ≡ replicate (used + 1) 0) }
+        ensures entries { IfOk result (λ forwarding. forwarding.entries.items ≡ replicate (used / 2 + 1) 0) }
         ensures moves { IfOk result (λ forwarding. forwarding.moves.items ≡ []) }
         ensures next { IfOk result (λ forwarding. forwarding.next ≡ 1) }
     {
         Ok(Forwarding {
-            addresses: vec![in alloc; 0; used as usize + 1]?,
+            entries: vec![in alloc; 0; used as usize / 2 + 1]?,
             moves: Vec::new(alloc),
             next: 1,
         })
@@ -70,7 +96,8 @@ impl Forwarding {
     pub fn forwarded(&self, address: u32) -> u32
         ensures { result ≡ goes self.now address }
     {
-        self.addresses.get(address as usize).copied().unwrap_or(0)
+        let pair = address as usize / 2;
+        target(self.entries.get(pair).copied().unwrap_or(0), address)
     }
 
     /// Finds the object at an address, and answers its new one. An object that was found before keeps its place.
@@ -83,7 +110,9 @@ impl Forwarding {
             → (slice_get self.old.moves.items k ≡ Some m) ⊎ (m.from ≡ address) }
         ensures tracks { (s : State) → TracksAt space.now s self.old address → Tracks space.now s self.new }
     {
-        let known = self.addresses[address as usize];
+        let pair = address as usize / 2;
+        // An object starts at this address, so none does at the other of the two.
+        let known = self.entries[pair] / 2;
         if known != 0 {
             return Ok(known);
         }
@@ -94,7 +123,7 @@ impl Forwarding {
             to,
             shape,
         })?;
-        self.addresses[address as usize] = to;
+        self.entries[pair] = entry(address, to);
         self.next += cost(shape);
         Ok(to)
     }

@@ -259,7 +259,7 @@ fn what_is_reached_is_found_once_and_the_held_first(rt: HostRuntime) -> Result<(
     assert_eq!(rt; live.forwarding.next, 7);
     assert_eq!(rt; live.front, 1);
     assert_eq!(rt; live.held_words, 4);
-    for (address, want) in [(0, 0), (1, 0), (4, 1), (8, 5), (10, 0)] {
+    for (address, want) in [(0, 0), (1, 0), (4, 1), (5, 0), (8, 5), (9, 0), (10, 0)] {
         assert_eq!(rt; live.forwarding.forwarded(address), want, "at {address}");
     }
     Ok(())
@@ -279,8 +279,22 @@ fn an_object_that_a_scion_alone_names_is_found(rt: HostRuntime) -> Result<(), Fa
     assert_eq!(rt; live.forwarding.next, 3);
     assert_eq!(rt; live.front, 0);
     assert_eq!(rt; live.held_words, 0);
-    for (address, want) in [(1, 0), (3, 1)] {
+    for (address, want) in [(1, 0), (2, 0), (3, 1)] {
         assert_eq!(rt; live.forwarding.forwarded(address), want, "at {address}");
+    }
+    Ok(())
+}
+
+#[test]
+fn objects_at_an_even_and_at_the_next_odd_address_are_told_apart(
+    rt: HostRuntime,
+) -> Result<(), Fail> {
+    let mut forwarding = Forwarding::new(rt.alloc(), 9)?;
+    // The object at 4 goes to 1, and that at 7 to 2.
+    forwarding.entries[2] = 2;
+    forwarding.entries[3] = 5;
+    for (address, want) in [(3, 0), (4, 1), (5, 0), (6, 0), (7, 2), (8, 0), (99, 0)] {
+        assert_eq!(rt; forwarding.forwarded(address), want, "at {address}");
     }
     Ok(())
 }

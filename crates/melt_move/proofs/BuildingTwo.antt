@@ -19,7 +19,8 @@ use Rattle.melt_scion.proofs.Geometry.{one_header}
 use Rattle.melt_disk.specs.Homes.{need_of}
 use Rattle.melt_copy.specs.declared.forwarding.Relocation.{Relocation}
 use Rattle.melt_copy.specs.Moving.{IsWhole, IsRelocation, Relocates, words_in}
-use Rattle.melt_copy.specs.Tracking.{goes}
+use Rattle.melt_copy.specs.Tracking.{goes, looked_up}
+use Rattle.melt_copy.proofs.Entries.{nothing_behind}
 use Rattle.melt_move.specs.declared.choice.Departure.{Departure}
 use Rattle.melt_move.specs.declared.homes.Given.{Given}
 use Rattle.melt_move.specs.declared.decision.Decision.{Decision}
@@ -55,7 +56,7 @@ pub record HasTwo (space : SpaceWords) : Type 0 where
 
 -- what was decided
 pub record DecidesTwo (decision : Decision) : Type 0 where
-  pub addresses : decision.choice.stay.addresses.items ≡ 0 ∷ 1 ∷ 0 ∷ 0 ∷ 0 ∷ 0 ∷ 0 ∷ []
+  pub entries : decision.choice.stay.entries.items ≡ 3 ∷ 0 ∷ 0 ∷ 0 ∷ []
   pub moves : decision.choice.stay.moves.items ≡ first_stays ∷ []
   pub next : decision.choice.stay.next ≡ 4
   pub leaving : decision.choice.leaving.items ≡ second_goes ∷ []
@@ -95,6 +96,20 @@ one_item : {A : Type 0} (xs : List A) (x y : A) (k : ℕ) → xs ≡ x ∷ [] �
 one_item {A} xs x y k is at = single x y k (sym (ap (λ (l : List A). slice_get l k) is) ∙ at)
 
 -- the place in a list with one number that is not 0
+-- the entries send the first object to word 1, and no other
+first_sent : (a : ℕ) → looked_up (3 ∷ 0 ∷ 0 ∷ 0 ∷ []) a ≡ slice_index (0 ∷ 1 ∷ 0 ∷ 0 ∷ 0 ∷ 0 ∷ 0 ∷ []) a
+unfolding looked_up
+first_sent zero = refl
+first_sent (suc zero) = refl
+first_sent (suc (suc zero)) = refl
+first_sent (suc (suc (suc zero))) = refl
+first_sent (suc (suc (suc (suc zero)))) = refl
+first_sent (suc (suc (suc (suc (suc zero))))) = refl
+first_sent (suc (suc (suc (suc (suc (suc zero)))))) = refl
+first_sent (suc (suc (suc (suc (suc (suc (suc zero))))))) = refl
+first_sent (suc (suc (suc (suc (suc (suc (suc (suc a)))))))) =
+    nothing_behind (3 ∷ 0 ∷ 0 ∷ 0 ∷ []) (suc (suc (suc (suc (suc (suc (suc (suc a)))))))) (omega arith)
+
 first_only : (a : ℕ) → slice_index (0 ∷ 1 ∷ 0 ∷ 0 ∷ 0 ∷ 0 ∷ 0 ∷ []) a ≢ 0 → a ≡ 1
 first_only zero some = absurd (some refl)
 first_only (suc zero) some = refl
@@ -257,7 +272,7 @@ module _ (space : SpaceWords) (two : HasTwo space) where
     moves = decision.choice.stay.moves.items
 
     goes_to : (a : ℕ) → goes decision.choice.stay a ≡ slice_index (0 ∷ 1 ∷ 0 ∷ 0 ∷ 0 ∷ 0 ∷ 0 ∷ []) a
-    goes_to a = ap (λ (l : List ℕ). slice_index l a) decides.addresses
+    goes_to a = ap (λ (l : List ℕ). looked_up l a) decides.entries ∙ first_sent a
 
     given_at : (a : ℕ) → slice_index decision.homes.offsets.items a ≡ slice_index (0 ∷ 0 ∷ 0 ∷ 0 ∷ 1 ∷ 0 ∷ 0 ∷ []) a
     given_at a = ap (λ (l : List ℕ). slice_index l a) decides.offsets

@@ -1,6 +1,6 @@
 -- Who stays and who leaves, decided object by object in the order in which they were found.
-use Rattle.std.proofs.Common.{◌≡◌, ◌≢◌, ℕ, suc, ◌+◌, ◌<◌, ◌≤◌, List, [], ◌∷◌, ◌++◌, length, take, replicate, refl}
-use Rattle.std.proofs.Common.{sym, ap, subst, ◌∙◌, ◌⊎◌, inl, inr, arith, true, false}
+use Rattle.std.proofs.Common.{◌≡◌, ◌≢◌, ℕ, suc, ◌+◌, ◌/◌, ◌<◌, ◌≤◌, List, [], ◌∷◌, ◌++◌, length, take, replicate}
+use Rattle.std.proofs.Common.{refl, sym, ap, subst, ◌∙◌, ◌⊎◌, inl, inr, arith, true, false}
 use Rattle.std.specs.Prelude.{slice_get, Some}
 use Rattle.std.proofs.lemmas.Bool.{cases_eq, cases_lt}
 use Rattle.std.proofs.lemmas.List.{take_all, take_more, take-take, take-append-le, length-replicate, length-take}
@@ -151,16 +151,16 @@ module _ (space : SpaceWords) (s : State) (live : LiveSet) (seen : IsSeen space 
 
   -- nobody was decided on
   pub chosen_start : (stay : Forwarding) (leaving : List Departure) (used : ℕ) → used ≡ space.used
-      → stay.addresses.items ≡ replicate (used + 1) 0 → stay.moves.items ≡ [] → stay.next ≡ 1 → leaving ≡ []
+      → stay.entries.items ≡ replicate (used / 2 + 1) 0 → stay.moves.items ≡ [] → stay.next ≡ 1 → leaving ≡ []
       → HasChosen space s live stay leaving 0
-  chosen_start stay leaving used same addresses moves next nobody = record {
+  chosen_start stay leaving used same entries moves next nobody = record {
     tracks = record {
       whole = seen.whole;
       word = seen.word;
       size = seen.size;
       free = seen.free;
-      holds = no_moves s stay used addresses moves next;
-      table = ap length addresses ∙ (length-replicate (used + 1) 0 ∙ ap (λ (n : ℕ). n + 1) same);
+      holds = no_moves s stay used entries moves next;
+      table = ap length entries ∙ (length-replicate (used / 2 + 1) 0 ∙ ap (λ (n : ℕ). n / 2 + 1) same);
     };
     stays = λ k m at. absurd (none_there stay.moves.items k m moves at);
     leave = λ k d at. absurd (none_there leaving k d nobody at);

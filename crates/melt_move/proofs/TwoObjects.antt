@@ -16,6 +16,8 @@ use Rattle.melt_copy.specs.declared.forwarding.Relocation.{Relocation}
 use Rattle.melt_copy.specs.declared.live.LiveSet.{LiveSet}
 use Rattle.melt_copy.specs.Moving.{IsWhole, IsRelocation, Relocates, AreHeld, words_in}
 use Rattle.melt_copy.specs.Reaching.{IsLiveSet}
+use Rattle.melt_copy.specs.Tracking.{looked_up}
+use Rattle.melt_copy.proofs.Entries.{nothing_behind}
 use Rattle.melt_move.specs.Plans.{IsSeen}
 
 abbrev pub leaf_header : Header
@@ -32,6 +34,21 @@ box_move = record { from = 3; to = 3; shape = box_header.shape }
 
 abbrev pub two_places : List ℕ
 two_places = 0 ∷ 1 ∷ 0 ∷ 3 ∷ 0 ∷ 0 ∷ []
+
+abbrev pub two_entries : List ℕ
+two_entries = 3 ∷ 7 ∷ 0 ∷ []
+
+-- the entries send each object to its place
+two_sent : (a : ℕ) → looked_up two_entries a ≡ slice_index two_places a
+unfolding looked_up
+two_sent zero = refl
+two_sent (suc zero) = refl
+two_sent (suc (suc zero)) = refl
+two_sent (suc (suc (suc zero))) = refl
+two_sent (suc (suc (suc (suc zero)))) = refl
+two_sent (suc (suc (suc (suc (suc zero))))) = refl
+two_sent (suc (suc (suc (suc (suc (suc a)))))) =
+    nothing_behind two_entries (suc (suc (suc (suc (suc (suc a)))))) (omega arith)
 
 -- how the words came about
 pub record HasTwo (space : SpaceWords) : Type 0 where
@@ -241,30 +258,30 @@ module _ (space : SpaceWords) (has : HasTwo space) where
     all = λ t r full. (0, leaf_move, refl, omega arith, refl);
   }
 
-  pub two_live : (live : LiveSet) → live.forwarding.addresses.items ≡ two_places
+  pub two_live : (live : LiveSet) → live.forwarding.entries.items ≡ two_entries
       → live.forwarding.moves.items ≡ leaf_move ∷ box_move ∷ [] → live.forwarding.next ≡ 6 → live.front ≡ 1
       → live.held_words ≡ 2 → (s : State) × IsSeen space s × IsLiveSet s live
   unfolding state
-  two_live live places moves next front held_words = (
+  two_live live entries moves next front held_words = (
     state,
     record { whole = whole; word = λ k. refl; size = refl; free = refl },
     record {
       whole = whole;
       found =
-          subst (λ (xs : List ℕ). Relocates state (slice_index xs) live.forwarding.moves.items live.forwarding.next)
-          (sym places)
-          (subst (λ (ms : List Relocation). Relocates state (slice_index two_places) ms live.forwarding.next)
+          subst (λ (xs : List ℕ). Relocates state (looked_up xs) live.forwarding.moves.items live.forwarding.next)
+          (sym entries)
+          (subst (λ (ms : List Relocation). Relocates state (looked_up two_entries) ms live.forwarding.next)
           (sym moves) (record {
             whole = two_whole;
-            found = two_found;
-            only = two_only;
+            found = λ k m at. two_sent m.from ∙ two_found k m at;
+            only = λ a known. two_only a (λ none. known (two_sent a ∙ none));
             places = two_placed;
             behind = next;
           }));
       all = λ a reached.
-          subst (λ (xs : List ℕ). slice_index xs a ≢ 0) (sym places) (elim (two_reached a reached) [
-            | inl leaf ↦ λ none. let one = ap (slice_index two_places) leaf in omega (arith, none, one)
-            | inr box ↦ λ none. let three = ap (slice_index two_places) box in omega (arith, none, three)
+          subst (λ (xs : List ℕ). looked_up xs a ≢ 0) (sym entries) (elim (two_reached a reached) [
+            | inl leaf ↦ λ none. let one = two_sent a ∙ ap (slice_index two_places) leaf in omega (arith, none, one)
+            | inr box ↦ λ none. let three = two_sent a ∙ ap (slice_index two_places) box in omega (arith, none, three)
           ]);
       held =
           subst (λ (ms : List Relocation). AreHeld state ms live.front) (sym moves)

@@ -32,9 +32,10 @@ fn two_objects(alloc: Global) -> Result<(Space, LiveSet), Fail>
     };
     space.set_word(3, encode_header(header));
     space.set_word(5, encode_ref(Ref::Clean(1)));
-    let mut addresses = vec![in alloc; 0; 6]?;
-    addresses[1] = 1;
-    addresses[3] = 3;
+    // The objects at 1 and 3 keep their addresses.
+    let mut entries = vec![in alloc; 0; 3]?;
+    entries[0] = 3;
+    entries[1] = 7;
     let mut moves = Vec::new(alloc);
     moves.push(Relocation {
         from: 1,
@@ -47,7 +48,7 @@ fn two_objects(alloc: Global) -> Result<(Space, LiveSet), Fail>
         shape: BOX,
     })?;
     let forwarding = Forwarding {
-        addresses,
+        entries,
         moves,
         next: 6,
     };

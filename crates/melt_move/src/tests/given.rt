@@ -61,7 +61,8 @@ fn leaf_stays(alloc: Global) -> Result<Decision, Fail>
     ensures offset { IfOk result (λ decision. slice_index decision.homes.offsets.items 3 ≡ 1) }
 {
     let mut stay = Forwarding::new(alloc, 4)?;
-    stay.addresses[3] = 1;
+    // The object at 3 gets the address 1.
+    stay.entries[1] = 3;
     stay.moves.push(STAYS)?;
     stay.next = 3;
     let given = Given {

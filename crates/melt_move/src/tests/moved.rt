@@ -65,7 +65,8 @@ fn second_leaves(alloc: Global, space: &Space) -> Result<Decision, Fail>
     ensures end { IfOk result (λ decision. decision.homes.first + need_for decision.homes.given.items ≡ 4) }
 {
     let mut stay = Forwarding::new(alloc, 6)?;
-    stay.addresses[1] = 1;
+    // The object at 1 gets the address 1.
+    stay.entries[0] = 3;
     stay.moves.push(STAYS)?;
     stay.next = 4;
     let mut leaving = Vec::new(alloc);

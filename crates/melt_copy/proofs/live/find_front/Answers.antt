@@ -9,7 +9,7 @@ begins : (g : Over) (c : In_ok-forwarding g) → Begins c.args.heap.now c.in_ok-
 begins g c = record {
   space = c.used.ensures.within;
   used_is = c.used.ensures.value;
-  addresses = c.in_ok-forwarding.ensures.addresses;
+  entries = c.in_ok-forwarding.ensures.entries;
   moves = c.in_ok-forwarding.ensures.moves;
   next = c.in_ok-forwarding.ensures.next;
 }

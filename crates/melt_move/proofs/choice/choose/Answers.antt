@@ -5,7 +5,7 @@ use Rattle.melt_copy.specs.declared.forwarding.Forwarding.{Forwarding}
 use Rattle.melt_copy.specs.declared.forwarding.Relocation.{Relocation}
 use Rattle.melt_move.specs.declared.choice.Departure.{Departure}
 use Rattle.melt_copy.proofs.Finding.{at_within, at_header}
-use Rattle.melt_move.proofs.Choosing.{HasChosen, chosen_leaves, chosen_stays, found_at, is_chosen}
+use Rattle.melt_move.proofs.Choosing.{HasChosen, chosen_start, chosen_leaves, chosen_stays, found_at, is_chosen}
 use Rattle.melt_move.proofs.choice.choose.Goals as goal
 use Rattle.melt_move.proofs.choice.choose.Goals.{then-k-live+then-is_stale+in_ok-push, else-k-live+in_ok-find}
 use Rattle.melt_move.proofs.choice.choose.Goals.{else-k-live-via-then-k-live+else-is_stale, else-k-live-via-else-k-live}
@@ -39,6 +39,15 @@ find-requires g c =
           (ap (λ (ms : List Relocation). slice_get ms c.loop-k.k) (sym c.deref-m-items.ensures.value)
           ∙ slice_get-get_or c.deref-m-items.result.now c.loop-k.k _ c.loop-k-test.true),
     )
+
+pub loop-k-init : goal.loop-k-init
+loop-k-init g c = record {
+  chosen = λ s seen is.
+      chosen_start c.args.space.now s c.args.live.now seen is c.in_ok-stay.stay c.new-leaving.result.items c.used.result
+      c.used.ensures.value c.in_ok-stay.ensures.entries c.in_ok-stay.ensures.moves c.in_ok-stay.ensures.next
+      c.new-leaving.ensures.items;
+  visits = omega arith;
+}
 
 pub loop-k-preserved : goal.loop-k-preserved
 loop-k-preserved g c = record {

@@ -20,8 +20,8 @@ returns c =
       marks = subst (SetsWord c.make-2.new.self c.set_word.new.self 3) c.encode_header.ensures c.set_word.ensures;
       refers = subst (SetsWord c.set_word.new.self c.set_word-2.new.self 5) c.encode_ref.ensures c.set_word-2.ensures;
     })
-    _ (ap (λ (xs : List ℕ). slice_set (slice_set xs 1 1) 3 3)
-    (c.in_ok-addresses.ensures.items_if_clones_equal (λ y is. is)))
+    _ (ap (λ (xs : List ℕ). slice_set (slice_set xs 0 3) 1 7)
+    (c.in_ok-entries.ensures.items_if_clones_equal (λ y is. is)))
     (c.in_ok-push-2.ensures.items ∙ ap (λ (ms : List Relocation). ms ++ box_move ∷ [])
     (c.in_ok-push.ensures.items ∙ ap (λ (ms : List Relocation). ms ++ leaf_move ∷ []) c.new-moves.ensures.items))
     refl refl refl

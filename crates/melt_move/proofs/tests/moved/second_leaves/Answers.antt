@@ -12,7 +12,7 @@ returns-clause-sources c =
     let two : HasTwo c.args.space.now = record { words = c.requires.words; used = c.requires.used } in (
       two_state c.args.space.now,
       two_sources c.args.space.now two _ (record {
-        addresses = ap (λ (l : List ℕ). slice_set l 1 1) c.in_ok-stay.ensures.addresses;
+        entries = ap (λ (l : List ℕ). slice_set l 0 3) c.in_ok-stay.ensures.entries;
         moves = c.in_ok-push.ensures.items
             ∙ ap (λ (l : List Relocation). l ++ first_stays ∷ []) c.in_ok-stay.ensures.moves;
         next = refl;
