@@ -15,6 +15,7 @@ pub mod Growth
 pub mod Following
 pub mod Copies
 pub mod Queue
+pub mod Room
 pub mod Held
 pub mod Walking
 pub mod Roots

@@ -9,6 +9,7 @@
 //! globals refer to comes behind them, then the objects of live scions, to which records on disk refer, and then what
 //! slots do.
 ghost use Rattle.std.specs.Prelude.{◌≡◌, ℕ, ◌+◌, ◌*◌, ◌<◌, ◌≤◌, length, IfOk, OnErr};
+ghost use Rattle.std.specs.Vec.{vec_capacity};
 ghost use Rattle.melt_scion.specs.Heaps.{IsFormed, IsSettled};
 ghost use Rattle.melt_scion.specs.Scions.{IsTable};
 ghost use Rattle.melt_copy.specs.Copying.{Collects, IsCopying};
@@ -55,15 +56,16 @@ pub fn numbers_for<L: Ledger>(
     }
 }
 
-/// A vector for what is to be copied.
+/// A vector with room for the words in use.
 fn room_for_copy(alloc: Global, heap: &mut Heap) -> Result<Vec<u64>, NoMemory>
-    ensures { heap.new ≡ heap.old }
+    ensures room { IfOk result (λ room. heap.old.space.used ≤ vec_capacity room) }
+    ensures unchanged { heap.new ≡ heap.old }
 {
     heap.space.room_for_copy(alloc)
 }
 
-/// Copies everything that can be reached, with the marks that the phase leaves, the words of objects into `room`. The
-/// heap and the registers stay.
+/// Copies everything that can be reached, with the marks that the phase leaves, the words of objects into `room`, which
+/// has room for all words in use. The heap and the registers stay.
 fn copy_out<L: Ledger>(
     alloc: Global,
     heap: &Heap,
@@ -72,6 +74,7 @@ fn copy_out<L: Ledger>(
     phase: Phase,
     steps: &mut Steps<L>,
 ) -> Result<Copied, NoMemory>
+    requires room { heap.now.space.used ≤ vec_capacity room }
     requires formed { IsFormed heap.now held.now }
     ensures copies { IfOk result (CopiesHeap phase heap.now held.now) }
     ensures visits { (objects : ℕ) → CountsReached heap.now held.now objects

@@ -67,7 +67,7 @@ pub fn numbers_of<L: Ledger>(
     let mut numbers = Vec::with_capacity(alloc, moves.len())?;
     for m in moves {
         steps.tick();
-        numbers.push(names.get(m.from))?;
+        numbers.push_reserved(names.get(m.from));
     }
     Ok(numbers)
 }

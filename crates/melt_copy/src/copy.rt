@@ -8,7 +8,11 @@
 //! All is read from the old words, and none of them changes meanwhile. So an object that was found still has its header
 //! there, from which its shape and its stale bit come, and a slot still refers to an old address. The new addresses
 //! stand in a table beside the words.
-ghost use Rattle.std.specs.Prelude.{◌≡◌, ◌≢◌, ℕ, ◌+◌, ◌*◌, ◌<◌, ◌≤◌, length, slice_index, IfOk, OnOk};
+//!
+//! The vector that is copied into has room for all words in use, and what is reached takes no more than these. So no
+//! word that is put there looks for room, and memory is wanted only for what is found.
+ghost use Rattle.std.specs.Prelude.{◌≡◌, ◌≢◌, ℕ, ◌+◌, ◌*◌, ◌<◌, ◌≤◌, ◌++◌, length, slice_index, IfOk, OnOk};
+ghost use Rattle.std.specs.Vec.{vec_capacity};
 ghost use Rattle.melt_word.specs.Words.{IsHeader, IsShape, cost_of, header_word};
 ghost use Rattle.melt_word.specs.declared.header.Header.{Header};
 ghost use Rattle.melt_scion.specs.State.{State};
@@ -21,6 +25,9 @@ use melt_space::Space;
 use melt_word::{Header, Shape, cost, encode_header};
 use std::sync::ledger::Ledger;
 
+/// Fewer words are put one by one. To copy them at once begins with a call, which takes as long as some of them.
+const FEW: usize = 8;
+
 /// Counts a step for each of the words, which are copied at once.
 pub fn visit_words<L: Ledger>(words: &[u64], steps: &mut Steps<L>)
     ensures { steps.new ≡ steps.old + length words.now }
@@ -30,8 +37,36 @@ pub fn visit_words<L: Ledger>(words: &[u64], steps: &mut Steps<L>)
     }
 }
 
-/// Puts the words of references behind those that are there, each after the move. Finds the objects to which they
-/// refer.
+/// Puts a few words behind those that are there. There is room for them.
+fn push_few(out: &mut Vec<u64>, words: &[u64])
+    requires { length out.old.items + length words.now ≤ vec_capacity out.old }
+    ensures items { out.new.items ≡ out.old.items ++ words.now }
+    ensures capacity { vec_capacity out.old ≤ vec_capacity out.new }
+{
+    for word in words {
+        out.push_reserved(*word);
+    }
+}
+
+/// Puts words behind those that are there, each as it is. There is room for them. Counts a step for each.
+pub fn push_words<L: Ledger>(out: &mut Vec<u64>, words: &[u64], steps: &mut Steps<L>)
+    requires { length out.old.items + length words.now ≤ vec_capacity out.old }
+    ensures items { out.new.items ≡ out.old.items ++ words.now }
+    ensures capacity { vec_capacity out.old ≤ vec_capacity out.new }
+    ensures visits { steps.new ≡ steps.old + length words.now }
+{
+    visit_words(words, steps);
+    if words.len() < FEW {
+        push_few(out, words);
+    } else if out.extend_from_slice(words).is_err() {
+        // Where there is room, no memory is taken.
+        unreachable!()
+    }
+}
+
+/// Puts the words of references behind those that are there, each after the move. There is room for them. Finds the
+/// objects to which they refer.
+#[inline(always)]
 pub fn move_words<L: Ledger>(
     out: &mut Vec<u64>,
     forwarding: &mut Forwarding,
@@ -40,8 +75,10 @@ pub fn move_words<L: Ledger>(
     words: &[u64],
     steps: &mut Steps<L>,
 ) -> Result<(), NoMemory>
-    requires { (s : State) × TracksIn space.now s forwarding.old words.now }
+    requires room { length out.old.items + length words.now ≤ vec_capacity out.old }
+    requires tracks { (s : State) × TracksIn space.now s forwarding.old words.now }
     ensures extends { OnOk result (Extends out.old.items out.new.items (length words.now)) }
+    ensures capacity { vec_capacity out.old ≤ vec_capacity out.new }
     ensures moves { OnOk result ((i : ℕ) → i < length words.now
         → WordMoves phase (goes forwarding.new) (slice_index words.now i)
         (slice_index out.new.items (length out.old.items + i))) }
@@ -51,7 +88,7 @@ pub fn move_words<L: Ledger>(
 {
     for word in words {
         steps.tick();
-        out.push(forwarding.move_word(space, phase, *word)?)?;
+        out.push_reserved(forwarding.move_word(space, phase, *word)?);
     }
     Ok(())
 }
@@ -69,7 +106,9 @@ pub fn move_header(phase: Phase, held: bool, shape: Shape, word: u64) -> u64
     }
 }
 
-/// Puts an object that was found behind the words that are there. Finds the objects to which it refers.
+/// Puts an object that was found behind the words that are there. There is room for it. Finds the objects to which it
+/// refers.
+#[inline(always)]
 fn copy_object<L: Ledger>(
     out: &mut Vec<u64>,
     forwarding: &mut Forwarding,
@@ -79,8 +118,10 @@ fn copy_object<L: Ledger>(
     held: bool,
     steps: &mut Steps<L>,
 ) -> Result<(), NoMemory>
-    requires { (s : State) × TracksOf space.now s forwarding.old m }
+    requires room { length out.old.items + cost_of m.shape ≤ vec_capacity out.old }
+    requires tracks { (s : State) × TracksOf space.now s forwarding.old m }
     ensures extends { OnOk result (Extends out.old.items out.new.items (cost_of m.shape)) }
+    ensures capacity { vec_capacity out.old ≤ vec_capacity out.new }
     ensures object { OnOk result ((s : State) → TracksOf space.now s forwarding.old m → m.to ≡ length out.old.items + 1
         → ObjectMoves phase held (goes forwarding.new) s (word_numbered out.new.items) m) }
     ensures grows { Grows forwarding.old forwarding.new }
@@ -92,15 +133,16 @@ fn copy_object<L: Ledger>(
     let numbers = 2 + m.shape.refs as usize;
     let header = move_header(phase, held, m.shape, object[0]);
     visit_words(&object[..2], steps);
-    out.extend_from_slice(&[header, object[1]])?;
+    out.push_reserved(header);
+    out.push_reserved(object[1]);
     move_words(out, forwarding, space, phase, &object[2..numbers], steps)?;
-    visit_words(&object[numbers..], steps);
-    out.extend_from_slice(&object[numbers..])?;
+    push_words(out, &object[numbers..], steps);
     Ok(())
 }
 
-/// Copies the objects that were found, and those that are found meanwhile, into `words`, whose items go. The first word
-/// of the copy is that at address 1. Registers hold the first objects, as many as `front`.
+/// Copies the objects that were found, and those that are found meanwhile, into `words`, whose items go, and which has
+/// room for all words in use. The first word of the copy is that at address 1. Registers hold the first objects, as
+/// many as `front`.
 ///
 /// The order is that of C. J. Cheney, "A Nonrecursive List Compacting Algorithm", Communications of the ACM 13 (1970):
 /// the objects that were found and not copied yet are a queue.
@@ -112,7 +154,8 @@ pub fn copy_objects<L: Ledger>(
     front: usize,
     steps: &mut Steps<L>,
 ) -> Result<Vec<u64>, NoMemory>
-    requires { (s : State) × Tracks space.now s forwarding.old }
+    requires room { space.now.used ≤ vec_capacity words }
+    requires tracks { (s : State) × Tracks space.now s forwarding.old }
     ensures copied { IfOk result (λ words. (s : State) → Tracks space.now s forwarding.old
         → HasCopied phase front space.now s forwarding.new words.items (length forwarding.new.moves.items)) }
     ensures grows { Grows forwarding.old forwarding.new }

@@ -101,6 +101,7 @@ impl Forwarding {
     }
 
     /// Finds the object at an address, and answers its new one. An object that was found before keeps its place.
+    #[inline(always)]
     pub fn find(&mut self, space: &Space, address: u32) -> Result<u32, NoMemory>
         requires { (s : State) × TracksAt space.now s self.old address }
         ensures found { IfOk result (λ to. (goes self.new address ≡ to) × (to ≢ 0)) }
@@ -142,6 +143,7 @@ impl Forwarding {
     }
 
     /// The word of a reference after the move. Finds the object to which it refers.
+    #[inline(always)]
     pub fn move_word(&mut self, space: &Space, phase: Phase, word: u64) -> Result<u64, NoMemory>
         requires { (s : State) × TracksFor space.now s self.old word }
         ensures moves { IfOk result (WordMoves phase (goes self.new) word) }

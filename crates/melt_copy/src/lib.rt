@@ -15,7 +15,7 @@ pub mod settling;
 
 pub use collect::{collect_copy, numbers_for, rename_all};
 pub use commit::forward_held;
-pub use copy::{move_header, visit_words};
+pub use copy::{move_header, push_words, visit_words};
 pub use forwarding::{Forwarding, Relocation};
 pub use live::{LiveSet, reach};
 pub use settling::settle;

@@ -14,7 +14,7 @@ use Rattle.melt_copy.proofs.collect.collect_copy.Goals.{After-room_for_copy, Aft
 formed_still : (g : Over) (c : After-room_for_copy g) → IsFormed c.room_for_copy.new.heap c.args.held.now
 formed_still g c =
     let P : Heap → Type 0 = λ h. IsFormed h c.args.held.now in
-    subst P (sym c.room_for_copy.ensures) c.requires.formed
+    subst P (sym c.room_for_copy.ensures.unchanged) c.requires.formed
 
 pub put_back-requires-clause-fits : goal.put_back-requires-clause-fits
 put_back-requires-clause-fits g c =
@@ -41,8 +41,8 @@ returns-clause-collected g c =
     let OfCopy : Heap → Type 0 = λ h. CopiesHeap c.args.phase h c.args.held.now copied in
     let OfPut : Heap → Type 0 = λ h. IsPutBack h c.put_back.new.heap c.args.held.now c.put_back.new.held copied in
     put_collects c.requires.phase c.requires.settled
-    (subst OfCopy c.room_for_copy.ensures c.in_ok-copied.ensures.copies)
-    (subst OfPut c.room_for_copy.ensures c.put_back.ensures.put) (record {
+    (subst OfCopy c.room_for_copy.ensures.unchanged c.in_ok-copied.ensures.copies)
+    (subst OfPut c.room_for_copy.ensures.unchanged c.put_back.ensures.put) (record {
       held = refl;
       rest = record {
         of_phase = refl;
@@ -57,7 +57,7 @@ returns-clause-collected g c =
 reached_still : (g : Over) (c : After-copy_out g) (words : ℕ) (entry : EntryWords c.args.heap.now c.args.held.now words)
     → CountsReached c.room_for_copy.new.heap c.args.held.now entry.objects
 reached_still g c words entry =
-    subst (λ (h : Heap). CountsReached h c.args.held.now entry.objects) (sym c.room_for_copy.ensures) entry.reached
+    subst (λ (h : Heap). CountsReached h c.args.held.now entry.objects) (sym c.room_for_copy.ensures.unchanged) entry.reached
 
 -- the visits until all is copied
 visits : (g : Over) (c : After-copy_out g) (words : ℕ) (entry : EntryWords c.args.heap.now c.args.held.now words)
@@ -68,8 +68,8 @@ visits g c words entry =
     omega (
       arith,
       until,
-      ap (λ (h : Heap). length h.globals) c.room_for_copy.ensures,
-      ap (λ (h : Heap). length h.scions.live) c.room_for_copy.ensures,
+      ap (λ (h : Heap). length h.globals) c.room_for_copy.ensures.unchanged,
+      ap (λ (h : Heap). length h.scions.live) c.room_for_copy.ensures.unchanged,
     )
 
 pub returns-in_err-room-clause-visits : goal.returns-in_err-room-clause-visits
@@ -106,6 +106,6 @@ returns-clause-visits g c =
       few,
       two_each moves,
       live,
-      ap (λ (h : Heap). length h.scions.live) c.room_for_copy.ensures,
+      ap (λ (h : Heap). length h.scions.live) c.room_for_copy.ensures.unchanged,
       sum,
     ))

@@ -10,8 +10,8 @@ use Rattle.melt_copy.proofs.collect.copy_out.Given.{Over}
 use Rattle.melt_copy.proofs.collect.copy_out.Goals.{After-copy_objects}
 use Rattle.melt_copy.proofs.collect.copy_out.Goals as goal
 
-pub move_words-requires : goal.move_words-requires
-move_words-requires g c =
+pub move_words-requires-clause-tracks : goal.move_words-requires-clause-tracks
+move_words-requires-clause-tracks g c =
     may_find_globals _ c.args.heap.now c.args.held.now c.heap.view_is c.in_ok-forwarding.field-0
     c.in_ok-forwarding.ensures.finds c.deref.result.now c.deref.ensures.value c.requires.formed
 
@@ -21,8 +21,8 @@ find_scions-requires-clause-tracks g c =
     c.in_ok-forwarding.ensures.finds c.deref.result.now c.deref.ensures.value c.move_words.new.forwarding
     c.move_words.ensures.tracks c.requires.formed
 
-pub copy_objects-requires : goal.copy_objects-requires
-copy_objects-requires g c =
+pub copy_objects-requires-clause-tracks : goal.copy_objects-requires-clause-tracks
+copy_objects-requires-clause-tracks g c =
     let scions = may_find_scions _ c.args.heap.now c.args.held.now c.heap.view_is c.in_ok-forwarding.field-0
     c.in_ok-forwarding.ensures.finds c.deref.result.now c.deref.ensures.value c.move_words.new.forwarding
     c.move_words.ensures.tracks c.requires.formed in

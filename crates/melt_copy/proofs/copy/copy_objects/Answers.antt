@@ -3,13 +3,25 @@ use Rattle.std.proofs.lemmas.Option.{slice_get_read}
 use Rattle.melt_copy.specs.Tracking.{HasCopied}
 use Rattle.melt_copy.proofs.Growth.{Grows-more}
 use Rattle.melt_copy.proofs.Queue.{next_object, copied_more, count_fits, longer}
+use Rattle.melt_copy.proofs.Room.{next_fits_in}
 use Rattle.melt_copy.proofs.Visited.{turn_words, turn_within, first_words}
 use Rattle.melt_copy.proofs.copy.copy_objects.Goals as goal
 
-pub copy_object-requires : goal.copy_object-requires
-copy_object-requires g c =
-    let s = c.requires.0 in
-    let copied = c.loop-done.invariant.copied s c.requires.1 in (
+pub copy_object-requires-clause-room : goal.copy_object-requires-clause-room
+copy_object-requires-clause-room g c =
+    let s = c.requires.tracks.0 in
+    let copied = c.loop-done.invariant.copied s c.requires.tracks.1 in
+    let at = slice_get_read c.loop-done.forwarding.moves.items (length c.loop-done.forwarding.moves.items)
+    c.loop-done.done c.index-m.result.now refl
+    (omega (arith, c.loop-done-test.true, c.len.ensures, c.loop-done.forwarding.moves.ok.0)) c.index-m.ensures in
+    let fits = next_fits_in c.args.space.now s c.loop-done.forwarding c.loop-done.done c.index-m.result.now
+    copied.tracks at in
+    omega (arith, fits, copied.size, c.loop-done.invariant.capacity, c.requires.room)
+
+pub copy_object-requires-clause-tracks : goal.copy_object-requires-clause-tracks
+copy_object-requires-clause-tracks g c =
+    let s = c.requires.tracks.0 in
+    let copied = c.loop-done.invariant.copied s c.requires.tracks.1 in (
       s,
       next_object c.args.space.now s c.loop-done.forwarding c.loop-done.done c.index-m.result.now copied.tracks (omega
           (arith, c.loop-done-test.true, c.len.ensures, c.loop-done.forwarding.moves.ok.0))
@@ -18,8 +30,8 @@ copy_object-requires g c =
 
 pub loop-done-smaller : goal.loop-done-smaller
 loop-done-smaller g c =
-    let s = c.requires.0 in
-    let copied = c.loop-done.invariant.copied s c.requires.1 in
+    let s = c.requires.tracks.0 in
+    let copied = c.loop-done.invariant.copied s c.requires.tracks.1 in
     let fits = count_fits c.args.space.now s c.loop-done.forwarding copied.tracks in
     omega (arith, fits, c.loop-done-test.true, c.len.ensures, c.loop-done.forwarding.moves.ok.0)
 
@@ -28,6 +40,7 @@ loop-done-preserved g c = record {
   within = let more =
       longer c.loop-done.forwarding c.copy_object.new.forwarding c.copy_object.ensures.grows in
       omega (arith, more, c.loop-done-test.true, c.len.ensures, c.loop-done.forwarding.moves.ok.0);
+  capacity = omega (arith, c.copy_object.ensures.capacity, c.loop-done.invariant.capacity);
   grows =
       Grows-more c.args.forwarding.now c.loop-done.forwarding c.copy_object.new.forwarding c.loop-done.invariant.grows
       c.copy_object.ensures.grows;
