@@ -13,12 +13,13 @@ use Rattle.melt_scion.specs.State.{State, RefersTo}
 use Rattle.melt_scion.specs.State.Reached.{in_slot}
 use Rattle.melt_copy.specs.declared.forwarding.Relocation.{Relocation}
 use Rattle.melt_copy.specs.Moving.{IsRefWord, words_in, header_after}
-use Rattle.melt_copy.specs.Tracking.{word_numbered, Extends}
+use Rattle.melt_copy.specs.Tracking.{word_numbered, Extends, goes}
 use Rattle.melt_copy.proofs.Copies.{slots_length, object_slot, word_in_at}
 use Rattle.melt_copy.proofs.Growth.{word_in_before}
 use Rattle.melt_copy.proofs.Places.{words_in-before}
 use Rattle.melt_copy.proofs.Queue.{words_in-next}
-use Rattle.melt_copy.proofs.Sources.{source_shape}
+use Rattle.melt_copy.proofs.Sources.{source_shape, found_words}
+use Rattle.melt_copy.proofs.Visited.{first_words}
 use Rattle.melt_move.specs.declared.decision.Decision.{Decision}
 use Rattle.melt_move.specs.Staying.{AreSources, ObjectStays, StandIn, Stays, StaysAs}
 use Rattle.melt_move.specs.Plans.{IsDecision, HasRoom}
@@ -173,6 +174,16 @@ pub stays_in : (space : SpaceWords) (s : State) (decision : Decision) (k : ℕ) 
     → Stays space s decision m
 stays_in space s decision k m decided room at =
     record { decided = decided; room = room; move = decided.choice.stay.whole k m at }
+
+-- the next object fits behind those that stand there
+pub next_stays_in : (space : SpaceWords) (s : State) (decision : Decision) (k : ℕ) (m : Relocation)
+    → IsDecision space s decision → slice_get decision.choice.stay.moves.items k ≡ Some m
+    → words_in (take k decision.choice.stay.moves.items) + cost_of m.shape ≤ space.used
+next_stays_in space s decision k m decided at =
+    let moves = decision.choice.stay.moves.items in
+    let words = found_words s (goes decision.choice.stay) moves decision.choice.stay.next decided.seen.whole
+    decided.choice.stay in
+    omega (arith, words_in-next moves k m at, first_words moves (k + 1), words, decided.seen.free)
 
 -- the object at a place of a list, as a loop over it reads it
 pub in_order : (moves list : List Relocation) (k : ℕ) (d : Relocation) → list ≡ moves → k < length list

@@ -5,6 +5,7 @@
 //! from before may be written by then, the heap is given up where one does.
 ghost use Rattle.std.specs.Prelude.{◌≡◌, ◌≤◌, ◌<◌, ◌+◌, ◌*◌, ◌^◌, ℕ, [], length, IfOk, IfErr, OnOk, OnErr, MatchOption};
 ghost use Rattle.std.specs.Prelude.{IsErrOf};
+ghost use Rattle.std.specs.Vec.{vec_capacity};
 ghost use Rattle.melt_io.specs.Outside.{Rose};
 ghost use Rattle.melt_disk.specs.Homes.{need_of};
 ghost use Rattle.melt_word.specs.Words.{IsShape};
@@ -78,6 +79,7 @@ fn prepare<L: Ledger>(
     ensures decides { IfOk result (λ prepared. Decides heap.new held.now prepared.0) }
     ensures first { IfOk result (λ prepared. prepared.0.homes.first ≡ first) }
     ensures room { IfOk result (λ prepared. prepared.1.items ≡ []) }
+    ensures capacity { IfOk result (λ prepared. heap.new.space.used ≤ vec_capacity prepared.1) }
     ensures spare { IfOk result (λ prepared. HasSpare prepared.0.homes heap.new.names) }
     ensures visits { (objects : ℕ) → CountsReached heap.old held.now objects
         → steps.new ≤ steps.old + 17 * length held.now + length heap.old.globals
@@ -106,7 +108,8 @@ fn lacks_room<D: StaleDisk>(disk: &StaleSpace<'_, D>, homes: &NewHomes) -> Optio
     Some(DiskFull { end, need, limit })
 }
 
-/// Copies what stays, the words of objects into `room`. The heap and the registers stay.
+/// Copies what stays, the words of objects into `room`, which has room for all words in use. The heap and the registers
+/// stay.
 fn copy_out<L: Ledger>(
     alloc: Global,
     heap: &Heap,
@@ -116,6 +119,7 @@ fn copy_out<L: Ledger>(
     steps: &mut Steps<L>,
 ) -> Result<Copied, NoMemory>
     requires empty { room.items ≡ [] }
+    requires capacity { heap.now.space.used ≤ vec_capacity room }
     requires formed { IsFormedOn heap.now held.now decision.now.homes.first }
     requires decides { Decides heap.now held.now decision.now }
     requires room { HasRoom decision.now }
@@ -127,8 +131,8 @@ fn copy_out<L: Ledger>(
 {
     let globals = Vec::with_capacity(alloc, heap.globals.items.len())?;
     let numbers = numbers_for(alloc, &heap.names, &decision.choice.stay.moves, steps)?;
-    let globals = copy_words(globals, decision, &heap.space, &heap.globals.items, steps)?;
-    let words = copy_staying(room, decision, &heap.space, steps)?;
+    let globals = copy_words(globals, decision, &heap.space, &heap.globals.items, steps);
+    let words = copy_staying(room, decision, &heap.space, steps);
     Ok(Copied {
         words,
         globals,

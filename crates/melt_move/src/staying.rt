@@ -2,7 +2,11 @@
 //!
 //! An object that stays keeps its home word. A reference to one that stays becomes stale, and one to an object that
 //! leaves becomes that object's home.
-ghost use Rattle.std.specs.Prelude.{◌≡◌, ℕ, ◌+◌, ◌*◌, ◌<◌, ◌≤◌, [], length, slice_index, IfOk, OnOk};
+//!
+//! What stays takes no more words than are in use, and the vector that it is copied into has room for these. So a copy
+//! takes no memory and cannot fail.
+ghost use Rattle.std.specs.Prelude.{◌≡◌, ℕ, ◌+◌, ◌*◌, ◌<◌, ◌≤◌, [], length, slice_index};
+ghost use Rattle.std.specs.Vec.{vec_capacity};
 ghost use Rattle.melt_word.specs.Words.{IsRef, cost_of};
 ghost use Rattle.melt_word.specs.declared.reference.Ref.TheVariants.{Disk, Stale};
 ghost use Rattle.melt_space.specs.Space.{word_at};
@@ -15,8 +19,8 @@ ghost use Rattle.melt_move.specs.Staying.{AreSources, Follows, IsSource, ObjectS
 ghost use Rattle.melt_move.specs.Staying.{WordsStay};
 
 use crate::decision::Decision;
-use melt_copy::{Relocation, move_header, visit_words};
-use melt_model::{NoMemory, Phase, Steps};
+use melt_copy::{Relocation, move_header, push_words, visit_words};
+use melt_model::{Phase, Steps};
 use melt_space::Space;
 use melt_word::{Ref, cost, decode_ref, encode_ref};
 use std::sync::ledger::Ledger;
@@ -49,47 +53,51 @@ fn stays_as(decision: &Decision, space: &Space, word: u64) -> u64
     }
 }
 
-/// Puts the words of references, each as it stays, behind those that are there.
+/// Puts the words of references, each as it stays, behind those that are there. There is room for them.
+#[inline(always)]
 fn append_words<L: Ledger>(
     out: &mut Vec<u64>,
     decision: &Decision,
     space: &Space,
     words: &[u64],
     steps: &mut Steps<L>,
-) -> Result<(), NoMemory>
-    requires { (s : State) × AreSources space.now s decision.now words.now }
-    ensures extends { OnOk result (Extends out.old.items out.new.items (length words.now)) }
-    ensures stay { OnOk result ((s : State) → AreSources space.now s decision.now words.now
+)
+    requires capacity { length out.old.items + length words.now ≤ vec_capacity out.old }
+    requires sources { (s : State) × AreSources space.now s decision.now words.now }
+    ensures extends { Extends out.old.items out.new.items (length words.now) }
+    ensures capacity { vec_capacity out.old ≤ vec_capacity out.new }
+    ensures stay { (s : State) → AreSources space.now s decision.now words.now
         → (i : ℕ) → i < length words.now
-        → StaysAs s decision.now (slice_index words.now i) (slice_index out.new.items (length out.old.items + i))) }
+        → StaysAs s decision.now (slice_index words.now i) (slice_index out.new.items (length out.old.items + i)) }
     ensures visits { steps.new ≤ steps.old + length words.now }
 {
     for word in words {
         steps.tick();
-        out.push(stays_as(decision, space, *word))?;
+        out.push_reserved(stays_as(decision, space, *word));
     }
-    Ok(())
 }
 
-/// Puts the words of references, each as it stays, into `out`, which is empty.
+/// Puts the words of references, each as it stays, into `out`, which is empty and has room for them.
 pub fn copy_words<L: Ledger>(
     mut out: Vec<u64>,
     decision: &Decision,
     space: &Space,
     words: &[u64],
     steps: &mut Steps<L>,
-) -> Result<Vec<u64>, NoMemory>
+) -> Vec<u64>
     requires empty { out.items ≡ [] }
+    requires capacity { length words.now ≤ vec_capacity out }
     requires sources { (s : State) × AreSources space.now s decision.now words.now }
-    ensures stay { IfOk result (λ out. (s : State) → AreSources space.now s decision.now words.now
-        → WordsStay s decision.now words.now out.items) }
+    ensures stay { (s : State) → AreSources space.now s decision.now words.now
+        → WordsStay s decision.now words.now result.items }
     ensures visits { steps.new ≤ steps.old + length words.now }
 {
-    append_words(&mut out, decision, space, words, steps)?;
-    Ok(out)
+    append_words(&mut out, decision, space, words, steps);
+    out
 }
 
-/// Puts an object that stays behind the words that are there.
+/// Puts an object that stays behind the words that are there. There is room for it.
+#[inline(always)]
 fn append_object<L: Ledger>(
     out: &mut Vec<u64>,
     decision: &Decision,
@@ -97,11 +105,13 @@ fn append_object<L: Ledger>(
     m: Relocation,
     held: bool,
     steps: &mut Steps<L>,
-) -> Result<(), NoMemory>
-    requires { (s : State) × Stays space.now s decision.now m }
-    ensures extends { OnOk result (Extends out.old.items out.new.items (cost_of m.shape)) }
-    ensures object { OnOk result ((s : State) → Stays space.now s decision.now m → m.to ≡ length out.old.items + 1
-        → ObjectStays s decision.now held (word_numbered out.new.items) m) }
+)
+    requires capacity { length out.old.items + cost_of m.shape ≤ vec_capacity out.old }
+    requires stays { (s : State) × Stays space.now s decision.now m }
+    ensures extends { Extends out.old.items out.new.items (cost_of m.shape) }
+    ensures capacity { vec_capacity out.old ≤ vec_capacity out.new }
+    ensures object { (s : State) → Stays space.now s decision.now m → m.to ≡ length out.old.items + 1
+        → ObjectStays s decision.now held (word_numbered out.new.items) m }
     ensures visits { steps.new ≤ steps.old + cost_of m.shape }
 {
     let object = space.words_at(m.from, cost(m.shape));
@@ -109,30 +119,29 @@ fn append_object<L: Ledger>(
     let numbers = 2 + m.shape.refs as usize;
     let header = move_header(Phase::Move, held, m.shape, object[0]);
     visit_words(&object[..2], steps);
-    out.extend_from_slice(&[header, object[1]])?;
-    append_words(out, decision, space, &object[2..numbers], steps)?;
-    visit_words(&object[numbers..], steps);
-    out.extend_from_slice(&object[numbers..])?;
-    Ok(())
+    out.push_reserved(header);
+    out.push_reserved(object[1]);
+    append_words(out, decision, space, &object[2..numbers], steps);
+    push_words(out, &object[numbers..], steps);
 }
 
-/// Puts the objects that stay into `out`, which is empty, one behind the other.
+/// Puts the objects that stay into `out`, one behind the other. It is empty, and has room for all words in use.
 pub fn copy_staying<L: Ledger>(
     mut out: Vec<u64>,
     decision: &Decision,
     space: &Space,
     steps: &mut Steps<L>,
-) -> Result<Vec<u64>, NoMemory>
+) -> Vec<u64>
     requires empty { out.items ≡ [] }
+    requires capacity { space.now.used ≤ vec_capacity out }
     requires room { HasRoom decision.now }
     requires decided { (s : State) × IsDecision space.now s decision.now }
-    ensures stand { IfOk result (λ out. (s : State) → IsDecision space.now s decision.now
-        → StandIn s decision.now out.items) }
+    ensures stand { (s : State) → IsDecision space.now s decision.now → StandIn s decision.now result.items }
     ensures visits { steps.new ≤ steps.old + 2 * words_in decision.now.choice.stay.moves.items }
 {
     for (k, m) in decision.choice.stay.moves.iter().enumerate() {
         steps.tick();
-        append_object(&mut out, decision, space, *m, k < decision.front, steps)?;
+        append_object(&mut out, decision, space, *m, k < decision.front, steps);
     }
-    Ok(out)
+    out
 }

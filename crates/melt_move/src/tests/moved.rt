@@ -105,8 +105,10 @@ fn copy_uncounted<L: Ledger>(
     requires sources { (s : State) × AreSources space.now s decision.now words.now }
 {
     let mut steps = Steps::<L>::new(blank);
-    let references = copy_words(Vec::new(alloc), decision, space, words, &mut steps)?;
-    let objects = copy_staying(Vec::new(alloc), decision, space, &mut steps)?;
+    let room = Vec::with_capacity(alloc, words.len())?;
+    let references = copy_words(room, decision, space, words, &mut steps);
+    let room = Vec::with_capacity(alloc, space.used() as usize)?;
+    let objects = copy_staying(room, decision, space, &mut steps);
     Ok((references, objects))
 }
 

@@ -4,4 +4,4 @@ use Rattle.melt_move.proofs.staying.copy_words.Goals as goal
 pub returns-clause-stay : goal.returns-clause-stay
 returns-clause-stay g c = λ s sources.
     words_stay s c.args.decision.now c.args.words.now c.args.out.items _ c.requires.empty
-    c.in_ok-append_words.ensures.extends (c.in_ok-append_words.ensures.stay s sources)
+    c.append_words.ensures.extends (c.append_words.ensures.stay s sources)
