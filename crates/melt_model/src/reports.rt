@@ -79,8 +79,8 @@ impl Model for Journals {
     ghost view = { λ journals. journals.items.items };
 }
 
-/// What a whole run answers. `log` is the stored history of a run that takes its events in a written
-/// order, and is empty for one of running threads. `history` is that of either, for contracts alone.
+/// What a whole run answers. `log` is the history where that is stored, as a run by a written order does
+/// where it is asked, and is empty elsewhere. `history` is that of each run, for contracts alone.
 #[derive(Debug, Drop)]
 pub struct Report {
     pub threads: ThreadReports,

@@ -110,6 +110,8 @@ impl<'a> ThreadState<'a> {
 
     /// Takes the reply to the next operation. After each of these whose number is a multiple of `every` a silent
     /// collection is due; 0 is for none.
+    // (inlined, as each answered call takes one)
+    #[inline(always)]
     pub fn take_reply(&mut self, reply: Reply, every: u32)
         requires { length self.old.replies.items < vec_capacity self.old.replies }
         ensures takes { TakesReply self.old self.new reply }
