@@ -86,7 +86,22 @@ fn same(a: u8, b: u8) -> Op {
 }
 
 /// A core over a new heap of so many words, one global and three forwarding words, under two threads. The history has
-/// room for 32 entries.
+/// room for 32 entries, and is stored where the heap is to keep names.
+fn core_over(alloc: Global, words: u32, named: bool) -> Result<Core, NoMemory>
+    requires { words < 2 ^ 30 }
+    ensures stands { IfOk result (λ core. Standing false no_homes_on (view core)) }
+    ensures quiet { IfOk result (λ core. IsQuiet (view core)) }
+    ensures threads { IfOk result (λ core. length (view core).held ≡ 2) }
+    ensures forwards { IfOk result (λ core. length (view core).forward ≤ 16) }
+    ensures history { IfOk result (λ core. (view core).log ≡ []) }
+    ensures room { IfOk result (λ core. 32 ≤ (view core).capacity) }
+{
+    let heap = Heap::new(alloc, words, 1, 3, named)?;
+    let rest = Rest::new(alloc, 2, 32)?;
+    Ok(Core::begin(heap, rest))
+}
+
+/// The same, whose history is stored.
 fn new_core(alloc: Global, words: u32) -> Result<Core, NoMemory>
     requires { words < 2 ^ 30 }
     ensures stands { IfOk result (λ core. Standing false no_homes_on (view core)) }
@@ -96,9 +111,7 @@ fn new_core(alloc: Global, words: u32) -> Result<Core, NoMemory>
     ensures history { IfOk result (λ core. (view core).log ≡ []) }
     ensures room { IfOk result (λ core. 32 ≤ (view core).capacity) }
 {
-    let heap = Heap::new(alloc, words, 1, 3, true)?;
-    let rest = Rest::new(alloc, 2, 32)?;
-    Ok(Core::begin(heap, rest))
+    core_over(alloc, words, true)
 }
 
 /// Makes one event over a disk without homes: word 1 is past all of them.
@@ -181,9 +194,14 @@ fn expect<R: Abort>(rt: &R, core: &mut Core, calls: &[Wanted])
     }
 }
 
-#[test]
-fn what_was_put_and_stored_is_found(rt: HostRuntime) -> Result<(), Fail> {
-    let mut core = new_core(rt.alloc(), 5)?;
+/// Makes one object, and reads and writes its parts. Each call but one has an entry in the history.
+fn expect_parts<R: Abort>(rt: &R, core: &mut Core)
+    requires stands { Standing false no_homes_on (view core.old) }
+    requires quiet { IsQuiet (view core.old) }
+    requires forwards { length (view core.old).forward ≤ 16 }
+    requires history { (view core.old).log ≡ [] }
+    requires room { 32 ≤ (view core.old).capacity }
+{
     let calls = [
         answered(0, new(0, 1, 2), 7, Reply::Done),
         answered(0, load(1, 0, 0), 3, Reply::Null),
@@ -195,7 +213,22 @@ fn what_was_put_and_stored_is_found(rt: HostRuntime) -> Result<(), Fail> {
         answered(0, get(1, 1), 3, Reply::Num(7)),
         answered(0, get(1, 0), 3, Reply::Num(0)),
     ];
-    expect(&rt, &mut core, &calls);
+    expect(rt, core, &calls);
+}
+
+#[test]
+fn what_was_put_and_stored_is_found(rt: HostRuntime) -> Result<(), Fail> {
+    let mut core = core_over(rt.alloc(), 5, true)?;
+    expect_parts(&rt, &mut core);
+    assert_eq!(rt; core.rest.log.len(), 8);
+    Ok(())
+}
+
+#[test]
+fn it_is_found_where_no_history_is_stored(rt: HostRuntime) -> Result<(), Fail> {
+    let mut core = core_over(rt.alloc(), 5, false)?;
+    expect_parts(&rt, &mut core);
+    assert_eq!(rt; core.rest.log.len(), 0);
     Ok(())
 }
 

@@ -7,7 +7,7 @@ ghost use Rattle.melt_step.specs.Going.{SomeGoes, core_view};
 use super::given::{Wanted, copied, emptied, expect, leaving, run_over, usual};
 use crate::epoch::take_turn;
 use crate::machine::Ordered;
-use crate::run::new_run;
+use crate::run::{new_run, run_schedule};
 use melt_disk::StaleSpace;
 use melt_io::{RecordReader, SteadyDisk};
 use melt_model::{Act, Entry, Phase, Reply, Slot, ThreadEnd, Value};
@@ -127,6 +127,23 @@ fn entries_come_in_the_order_of_their_events(rt: HostRuntime) -> Result<(), Fail
     let mut disk = SteadyDisk::new(alloc);
     let (report, _) = run_over(alloc, ORDERED, usual(16, 0), &mut disk)?;
     assert_eq!(rt; report.log.items.as_slice(), ENTRIES.as_slice());
+    Ok(())
+}
+
+#[test]
+fn entries_are_stored_only_where_they_are_asked_for(rt: HostRuntime) -> Result<(), Fail> {
+    let alloc = rt.alloc();
+    let config = usual(16, 0);
+    let mut disk = SteadyDisk::new(alloc);
+    let (stored, _) = run_over(alloc, ORDERED, config, &mut disk)?;
+    let trace = parse(alloc, ORDERED)?;
+    let mut other = SteadyDisk::new(alloc);
+    let mut space = StaleSpace::new(&mut other, config.disk);
+    let (report, _) = run_schedule(alloc, &trace, config, &mut space, false)?;
+    assert_eq!(rt; report.log.items.len(), 0);
+    for (thread, told) in report.threads.items.iter().zip(&stored.threads.items) {
+        assert_eq!(rt; thread.replies.items.as_slice(), told.replies.items.as_slice());
+    }
     Ok(())
 }
 
