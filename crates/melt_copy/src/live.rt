@@ -162,8 +162,8 @@ fn find_rest<L: Ledger>(
 
 /// Finds all that registers, globals and live scions reach in a heap. Counts one step for each turn of a loop.
 ///
-/// Takes memory for a number for each word in use, for what is found, and for a list of the live scions, and answers
-/// `NoMemory` where it is wanted.
+/// Takes memory for a number for each two words in use, for what is found, and for a list of the live scions, and
+/// answers `NoMemory` where it is wanted.
 pub fn reach<L: Ledger>(
     alloc: Global,
     heap: &Heap,
