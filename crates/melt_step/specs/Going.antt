@@ -19,7 +19,7 @@ use Rattle.melt_safepoint.specs.Threads.{DueBy}
 use Rattle.melt_safepoint.specs.declared.thread.ThreadState.{ThreadState}
 use Rattle.melt_step.specs.Lone.{CalledAlone}
 use Rattle.melt_step.specs.Made.{MakesInUse}
-use Rattle.melt_step.specs.Stored.{stored_view}
+use Rattle.melt_step.specs.Stored.{view_by}
 use Rattle.melt_step.specs.declared.machine.Ordered.{Ordered}
 
 -- what a run by the written order shows
@@ -28,7 +28,7 @@ core_view it = view it.core
 
 -- and to the engine, which knows by its type whether it stores its history
 abbrev pub kept_view : {stored : ℕ} → Ordered stored → View
-kept_view {stored} it = stored_view (stored == 1) (view it.core)
+kept_view {stored} it = view_by stored it.core
 
 -- A run stands inside an epoch as between two, but that calls may be in flight.
 pub record Goes (told : Bool) (script : Script) (config : Config) (shown : Shown) (run : Row) : Type 0 where

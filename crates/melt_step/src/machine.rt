@@ -6,9 +6,9 @@ ghost use Rattle.melt_model.specs.Alive.{CostsSum, Held, words_of};
 ghost use Rattle.melt_scion.specs.Heaps.{OnDisk};
 ghost use Rattle.melt_core.specs.Epochs.{HasDropped};
 ghost use Rattle.melt_core.specs.Holdings.{IsSound};
-ghost use Rattle.melt_core.specs.Views.{IsQuiet, Standing, value, view};
+ghost use Rattle.melt_core.specs.Views.{IsQuiet, Standing, value};
 ghost use Rattle.melt_safepoint.specs.Collections.{LeavesAll};
-ghost use Rattle.melt_step.specs.Stored.{stored_view};
+ghost use Rattle.melt_step.specs.Stored.{view_by};
 
 use crate::collector::left_of;
 use crate::turns::Turns;
@@ -26,29 +26,30 @@ pub struct Ordered<'a, const STORED: usize> {
 }
 
 impl<'a, const STORED: usize> Machine for Ordered<'a, STORED> {
-    ghost view = { λ it. stored_view (STORED == 1) (view it.core) };
+    ghost view = { λ it. view_by STORED it.core };
 
     ghost stored = { λ history. if STORED == 1 then history else [] };
 
     fn held(&self) -> u32
-        requires sound { IsSound (stored_view (STORED == 1) (view self.now.core)) }
-        ensures held { (disk : OnDisk) → Standing true disk (stored_view (STORED == 1) (view self.now.core))
-            → CostsSum (words_of (stored_view (STORED == 1) (view self.now.core)).log) (Held (value (stored_view (STORED == 1) (view self.now.core)))) result }
+        requires sound { IsSound (view_by STORED self.now.core) }
+        ensures held { (disk : OnDisk) → Standing true disk (view_by STORED self.now.core)
+            → CostsSum (words_of (view_by STORED self.now.core).log) (Held (value (view_by STORED self.now.core)))
+            result }
     {
         self.core.held()
     }
 
     fn drop_all(&mut self, thread: u32)
-        requires thread { thread < length (stored_view (STORED == 1) (view self.old.core)).held }
-        requires quiet { IsQuiet (stored_view (STORED == 1) (view self.old.core)) }
-        ensures dropped { HasDropped (stored_view (STORED == 1) (view self.old.core)) (stored_view (STORED == 1) (view self.new.core)) thread }
+        requires thread { thread < length (view_by STORED self.old.core).held }
+        requires quiet { IsQuiet (view_by STORED self.old.core) }
+        ensures dropped { HasDropped (view_by STORED self.old.core) (view_by STORED self.new.core) thread }
     {
         self.core.drop_all(thread);
     }
 
     fn finish(self) -> Left
-        requires quiet { IsQuiet (stored_view (STORED == 1) (view self.core)) }
-        ensures left { LeavesAll (stored_view (STORED == 1) (view self.entry.core)) result }
+        requires quiet { IsQuiet (view_by STORED self.core) }
+        ensures left { LeavesAll (view_by STORED self.entry.core) result }
         ensures stores { result.log ≡ (if STORED == 1 then result.history else []) }
     {
         let (heap, rest) = self.core.finish();

@@ -142,7 +142,10 @@ fn entries_are_stored_only_where_they_are_asked_for(rt: HostRuntime) -> Result<(
     let (report, _) = run_schedule(alloc, &trace, config, &mut space, false)?;
     assert_eq!(rt; report.log.items.len(), 0);
     for (thread, told) in report.threads.items.iter().zip(&stored.threads.items) {
-        assert_eq!(rt; thread.replies.items.as_slice(), told.replies.items.as_slice());
+        assert_eq!(rt;
+            thread.replies.items.as_slice(),
+            told.replies.items.as_slice()
+        );
     }
     Ok(())
 }

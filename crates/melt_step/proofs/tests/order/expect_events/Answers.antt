@@ -2,17 +2,23 @@
 use Rattle.std.proofs.Common.{sym, ◌∙◌, arith}
 use Rattle.melt_step.proofs.tests.order.expect_events.Goals as goal
 
-pub take_turn-requires-clause-stands : goal.take_turn-requires-clause-stands
-take_turn-requires-clause-stands g c =
+pub take_turn-requires : goal.take_turn-requires
+take_turn-requires g c =
     let stands = c.requires.stands in (
-      stands.0,
-      stands.1,
-      stands.2 ∙ sym c.loop-thread.invariant.image,
+      omega arith,
       (
-        stands.3.0,
-        stands.3.1,
-        stands.3.2,
-        c.loop-thread.invariant.keeps stands.0 stands.1 stands.2 stands.3.0 stands.3.1 stands.3.2 stands.3.3,
+        (
+          stands.0,
+          stands.1,
+          stands.2 ∙ sym c.loop-thread.invariant.image,
+          (
+            stands.3.0,
+            stands.3.1,
+            stands.3.2,
+            c.loop-thread.invariant.keeps stands.0 stands.1 stands.2 stands.3.0 stands.3.1 stands.3.2 stands.3.3,
+          ),
+        ),
+        c.loop-thread.invariant.stop,
       ),
     )
 
