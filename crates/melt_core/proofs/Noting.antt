@@ -3,7 +3,6 @@ use Rattle.std.proofs.Common.{◌≡◌, ◌≢◌, ℕ, zero, suc, refl, sym, �
 use Rattle.std.specs.Prelude.{Option, None, Some, IsSome, unwrap_or}
 use Rattle.std.specs.Option.{option_map}
 use Rattle.melt_model.specs.Thread.{found}
-use Rattle.melt_model.specs.declared.history.Value.{Value}
 use Rattle.melt_model.specs.declared.history.Value.TheVariants.{Nil, Ref}
 use Rattle.melt_model.specs.declared.operations.Op.{Op}
 use Rattle.melt_scion.specs.Heaps.{OnDisk}

@@ -10,7 +10,7 @@ use Rattle.melt_core.specs.declared.answer.StepResult.TheVariants.{Answered, Goi
 use Rattle.melt_core.specs.Advances.{AdvancesOver, Goes, IsAnswered, KeepsOthers, KeepsOwn, MovesBy}
 use Rattle.melt_core.specs.Made.{KeepsMade}
 use Rattle.melt_core.specs.Stages.{events_left}
-use Rattle.melt_core.specs.Views.{Standing, View, call_of, stage_of}
+use Rattle.melt_core.specs.Views.{Standing, View, stage_of}
 use Rattle.melt_core.proofs.Disks.{stands_untold}
 use Rattle.melt_safepoint.specs.declared.thread.ThreadState.{ThreadState}
 use Rattle.melt_safepoint.specs.declared.thread.Mode.TheVariants.{Running}

@@ -40,7 +40,7 @@ use Rattle.melt_safepoint.specs.declared.thread.Mode.TheVariants.{Ended}
 use Rattle.melt_safepoint.specs.Needs.{IsLoad}
 use Rattle.melt_safepoint.specs.Shown.{Underlies}
 use Rattle.melt_safepoint.specs.Threads.{most_forwards, TakesReply}
-use Rattle.melt_safepoint.specs.Modes.{owes_silent, Waits, IsEnded, mode_for, lost}
+use Rattle.melt_safepoint.specs.Modes.{owes_silent, Waits, IsEnded, mode_for}
 use Rattle.melt_safepoint.specs.Endings.{SeesDamage, IsLostBy}
 use Rattle.melt_safepoint.proofs.Modes.{told_runs, told_goes, NoPause}
 use Rattle.melt_safepoint.specs.Tables.{DropsIfEnded, ThreadTold, ThreadStep, ThreadWaits, ThreadGoes, ThreadRefused}

@@ -4,7 +4,7 @@ use Rattle.std.proofs.Common.{refl, sym, ◌∙◌, ap, subst, arith, inl, inr}
 use Rattle.std.proofs.Math.ListN.{set}
 use Rattle.std.proofs.lemmas.Bool.{cases_eq}
 use Rattle.std.proofs.lemmas.Option.{same_Some}
-use Rattle.std.specs.Prelude.{Bool, Option, None, Some, IsSome, IfSome, IfNone, slice_get, ◌⊎◌}
+use Rattle.std.specs.Prelude.{Bool, Option, None, Some, IsSome, IfSome, slice_get, ◌⊎◌}
 use Rattle.melt_model.specs.Alive.{Held, words_of, CostsSum}
 use Rattle.melt_model.specs.Thread.{value_in}
 use Rattle.melt_model.specs.declared.config.Config.{Config}
@@ -19,7 +19,7 @@ use Rattle.melt_trace.specs.Grammar.{InRange}
 use Rattle.melt_trace.specs.Script.{Script}
 use Rattle.melt_scion.specs.Heaps.{OnDisk}
 use Rattle.melt_core.specs.Advances.{InBounds, KeepsOthers, TellsDisk}
-use Rattle.melt_core.specs.Views.{View, Standing, view, call_of, value, values_of, IsQuiet}
+use Rattle.melt_core.specs.Views.{View, Standing, call_of, value, values_of, IsQuiet}
 use Rattle.melt_safepoint.specs.declared.thread.Mode.{Mode}
 use Rattle.melt_safepoint.specs.declared.thread.Mode.TheVariants.{Lacking}
 use Rattle.melt_safepoint.specs.declared.thread.ThreadState.{ThreadState}

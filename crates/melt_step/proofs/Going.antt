@@ -6,13 +6,12 @@ use Rattle.melt_model.specs.declared.config.Config.{Config}
 use Rattle.melt_model.specs.declared.operations.Op.TheVariants.{Collect}
 use Rattle.melt_trace.specs.Script.{Script}
 use Rattle.melt_scion.specs.Heaps.{OnDisk}
-use Rattle.melt_core.specs.Views.{View, view, IsQuiet, Standing}
+use Rattle.melt_core.specs.Views.{View, IsQuiet, Standing}
 use Rattle.melt_safepoint.specs.declared.thread.ThreadState.{ThreadState}
 use Rattle.melt_safepoint.specs.Shown.{Shown, Underlies}
 use Rattle.melt_safepoint.specs.Threads.{DueBy}
 use Rattle.melt_safepoint.specs.Endings.{HaveCuts}
 use Rattle.melt_safepoint.specs.Modes.{MayGo}
-use Rattle.melt_safepoint.specs.Passing.{Passed}
 use Rattle.melt_safepoint.proofs.Modes.{goes_on}
 use Rattle.melt_safepoint.proofs.Counting.{Adds, counts_on}
 use Rattle.melt_safepoint.specs.declared.collector.Collector.{Collector}

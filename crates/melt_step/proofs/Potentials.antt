@@ -17,7 +17,6 @@ use Rattle.melt_safepoint.specs.declared.thread.Mode.TheVariants.{Running, Due, 
 use Rattle.melt_safepoint.specs.declared.thread.Mode.TheVariants.{Ended}
 use Rattle.melt_safepoint.specs.declared.thread.ThreadState.{ThreadState}
 use Rattle.melt_safepoint.specs.Modes.{mode_for, MayGo, IsEnded, owes_silent, jobs}
-use Rattle.melt_safepoint.specs.Passing.{Passed}
 use Rattle.melt_safepoint.specs.Threads.{jobs_of, left, with_first}
 use Rattle.melt_safepoint.proofs.Modes.{lost_ends, paused_cases, running_or_due}
 use Rattle.melt_safepoint.specs.Tables.{ThreadWaits, ThreadGoes, ThreadRefused, ThreadLost, ThreadTold, ThreadStep}

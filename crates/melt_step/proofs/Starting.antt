@@ -38,7 +38,7 @@ use Rattle.melt_safepoint.specs.declared.thread.Mode.TheVariants.{Running, Asked
 use Rattle.melt_safepoint.specs.Threads.{most_forwards, AreNewThreads, IsNewThread}
 use Rattle.melt_safepoint.specs.Passing.{NoneOwn}
 use Rattle.melt_model.specs.Config.{InRanges}
-use Rattle.melt_safepoint.specs.Modes.{ForCollection, owes_silent, Waits, FitsMode, owes}
+use Rattle.melt_safepoint.specs.Modes.{ForCollection, owes_silent, Waits, FitsMode}
 use Rattle.melt_safepoint.proofs.Shown.{bare}
 use Rattle.melt_safepoint.proofs.Starting.{ends_new}
 use Rattle.melt_safepoint.specs.Tables.{KnowsStop, ThreadStands, TableStands}

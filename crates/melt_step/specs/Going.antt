@@ -1,5 +1,5 @@
 -- A run by the written order inside an epoch.
-use Rattle.std.specs.Prelude.{◌≡◌, ◌≢◌, ℕ, ◌==◌, ◌<◌, ◌≤◌, ◌⊎◌, Bool, true, false, List, [], length, Option, None, Some, slice_set}
+use Rattle.std.specs.Prelude.{◌≡◌, ◌≢◌, ℕ, ◌<◌, Bool, true, false, List, [], length, Option, None, Some, slice_set}
 use Rattle.melt_model.specs.declared.config.Config.{Config}
 use Rattle.melt_trace.specs.Script.{Script}
 use Rattle.melt_scion.specs.Heaps.{OnDisk}
@@ -7,7 +7,7 @@ use Rattle.melt_core.specs.Views.{IsQuiet, View, call_of, view}
 use Rattle.melt_safepoint.specs.Collections.{MadeSoFar}
 use Rattle.melt_safepoint.specs.Counts.{CountsCollections}
 use Rattle.melt_safepoint.specs.Endings.{HaveCuts}
-use Rattle.melt_safepoint.specs.Epochs.{LacksFirst, to_do}
+use Rattle.melt_safepoint.specs.Epochs.{LacksFirst}
 use Rattle.melt_safepoint.specs.Passing.{CalledAt, IsLacking}
 use Rattle.melt_safepoint.specs.Rows.{AwaitsCall, CollectorStands, Row, RunStands}
 use Rattle.melt_safepoint.specs.Shown.{Shown, Underlies}

@@ -1,15 +1,12 @@
 -- The call that is made alone, while all other threads wait: what it needs, and what comes of it.
-use Rattle.std.specs.Prelude.{◌≡◌, ◌≢◌, ℕ, ◌+◌, ◌^◌, ◌<◌, ◌≤◌, Bool, true, false, List, length, slice_index}
+use Rattle.std.specs.Prelude.{◌≡◌, ◌≢◌, ℕ, ◌+◌, ◌^◌, ◌<◌, ◌≤◌, Bool, true, false, List, length}
 use Rattle.std.specs.Prelude.{vec_capacity, Option, None, Some, ◌⊎◌}
 use Rattle.melt_model.specs.declared.operations.Op.{Op}
 use Rattle.melt_model.specs.declared.operations.Op.TheVariants.{Collect}
-use Rattle.melt_word.specs.declared.header.Header.{Header}
-use Rattle.melt_scion.specs.Heaps.{OnDisk, no_homes_on}
-use Rattle.melt_scion.specs.Placed.{IsNamed}
-use Rattle.melt_scion.specs.State.{HeaderAt, HoldsAt}
+use Rattle.melt_scion.specs.Heaps.{OnDisk}
 use Rattle.melt_core.specs.Advances.{InBounds, KeepsOthers}
 use Rattle.melt_core.specs.Changed.{HasRoomForEntry}
-use Rattle.melt_core.specs.Views.{View, maps, state, value, values_of, registers_in, call_of, Standing}
+use Rattle.melt_core.specs.Views.{View, value, values_of, registers_in, call_of, Standing}
 use Rattle.melt_safepoint.specs.declared.thread.Mode.TheVariants.{Lacking}
 use Rattle.melt_safepoint.specs.declared.thread.ThreadState.{ThreadState}
 use Rattle.melt_safepoint.specs.Needs.{NeedsWords}

@@ -1,9 +1,7 @@
 -- Which of the words that a run makes are in use.
-use Rattle.std.specs.Prelude.{ℕ, ◌*◌, true, List, length, Option}
-use Rattle.melt_model.specs.declared.config.Config.{Config}
-use Rattle.melt_model.specs.declared.reports.Journal.{Journal}
+use Rattle.std.specs.Prelude.{ℕ, true, List, Option}
 use Rattle.melt_scion.specs.Heaps.{OnDisk}
-use Rattle.melt_core.specs.Made.{HasMade, KeepsMade}
+use Rattle.melt_core.specs.Made.{KeepsMade}
 use Rattle.melt_core.specs.Views.{View, Standing}
 use Rattle.melt_safepoint.specs.Shown.{Underlies}
 

@@ -4,7 +4,7 @@ use Rattle.std.specs.Option.{is_some}
 use Rattle.melt_model.specs.declared.reports.Phase.{Phase}
 use Rattle.melt_move.specs.Planned.{phase_done}
 use Rattle.melt_core.specs.Epochs.{core_of}
-use Rattle.melt_core.specs.Views.{View, history_in, stores, view}
+use Rattle.melt_core.specs.Views.{history_in, stores, view}
 use Rattle.melt_core.proofs.Naming.{stores_is}
 use Rattle.melt_core.specs.Lending.{with_held}
 use Rattle.melt_core.specs.declared.machine.Core.{Core}

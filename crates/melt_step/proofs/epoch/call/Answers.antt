@@ -1,5 +1,5 @@
 -- The call is made, or lacks words.
-use Rattle.std.proofs.Common.{◌≡◌, ℕ, Bool, true, false, refl, ◌∙◌, subst}
+use Rattle.std.proofs.Common.{◌≡◌, ℕ, true, false, refl, ◌∙◌, subst}
 use Rattle.std.specs.Vec.{with_item}
 use Rattle.melt_core.specs.Views.{View, view}
 use Rattle.melt_core.proofs.Disks.{stands_untold}

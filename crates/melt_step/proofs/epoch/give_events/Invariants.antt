@@ -1,6 +1,5 @@
 -- What stood at the start of the epoch stands on, over the same words, and nothing or less is to do.
-use Rattle.std.proofs.Common.{◌≡◌, ◌<◌, ◌≤◌, length}
-use Rattle.std.specs.Prelude.{IfSome}
+use Rattle.std.proofs.Common.{◌≡◌, ◌≤◌}
 use Rattle.melt_core.specs.Views.{stores, view}
 use Rattle.melt_safepoint.specs.Shown.{Shown}
 use Rattle.melt_safepoint.specs.Losses.{CountsLosses}

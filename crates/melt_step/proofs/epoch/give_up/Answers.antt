@@ -1,5 +1,5 @@
 -- All threads stand as they did, and are halted.
-use Rattle.std.proofs.Common.{◌≡◌, Bool, Vec, Global, sym, ◌∙◌, ap}
+use Rattle.std.proofs.Common.{Bool, Vec, Global, sym, ◌∙◌, ap}
 use Rattle.melt_model.specs.declared.reports.Journal.{Journal}
 use Rattle.melt_safepoint.proofs.Collected.{stands_failed}
 use Rattle.melt_safepoint.proofs.Halting.{halted_losses}

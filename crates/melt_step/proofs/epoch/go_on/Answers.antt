@@ -1,10 +1,7 @@
 -- The threads make their calls again, and then take events.
-use Rattle.std.proofs.Common.{◌≡◌, ◌∙◌, arith}
+use Rattle.std.proofs.Common.{arith}
 use Rattle.melt_core.specs.Views.{view}
-use Rattle.melt_safepoint.specs.Rows.{row_of}
-use Rattle.melt_safepoint.proofs.Losses.{counts_by}
 use Rattle.melt_safepoint.proofs.ToDo.{resumed_same}
-use Rattle.melt_step.specs.Going.{core_view}
 use Rattle.melt_step.proofs.Going.{known_rests, stands_from}
 use Rattle.melt_step.proofs.epoch.go_on.Goals as goal
 

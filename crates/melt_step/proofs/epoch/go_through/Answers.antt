@@ -1,14 +1,13 @@
 -- The threads go on, behind the call of one that lacked room or at once.
-use Rattle.std.proofs.Common.{◌≡◌, ℕ, ◌<◌, None, Some, sym, ◌∙◌, ap, subst, arith}
+use Rattle.std.proofs.Common.{◌≡◌, ℕ, ◌<◌, Some, sym, ◌∙◌, subst, arith}
 use Rattle.std.specs.Prelude.{Option}
 use Rattle.melt_safepoint.specs.Epochs.{EndsEpoch, SomeMayRun, to_do}
 use Rattle.melt_safepoint.specs.Rows.{Row, row_of}
 use Rattle.melt_safepoint.specs.Shown.{Shown}
-use Rattle.melt_safepoint.proofs.Losses.{counts_then}
 use Rattle.melt_safepoint.proofs.Safepoints.{called_own}
 use Rattle.melt_safepoint.proofs.ToDo.{called_less}
 use Rattle.melt_step.specs.Going.{CallsFirst, MadeCall, core_view}
-use Rattle.melt_step.proofs.Going.{goes_from, runs_all, runs_behind}
+use Rattle.melt_step.proofs.Going.{runs_all, runs_behind}
 use Rattle.melt_step.proofs.epoch.go_through.Given.{Over}
 use Rattle.melt_step.proofs.epoch.go_through.Goals as goal
 use Rattle.melt_step.proofs.epoch.go_through.Goals.{In-None-call}

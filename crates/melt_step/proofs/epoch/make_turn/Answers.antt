@@ -1,13 +1,12 @@
 -- The state that was borrowed is that of the thread whose turn it is.
-use Rattle.std.proofs.Common.{◌≡◌, ◌<◌, true, false, List, length, refl, sym, ◌∙◌, ap, subst, arith}
+use Rattle.std.proofs.Common.{◌≡◌, ◌<◌, List, length, refl, sym, ◌∙◌, ap, subst, arith}
 use Rattle.std.proofs.Math.ListN.{length-set}
 use Rattle.std.proofs.lemmas.Option.{get_or_from_slice_get, slice_get_within}
 use Rattle.std.specs.Prelude.{Some, slice_get}
 use Rattle.melt_core.specs.Views.{view}
 use Rattle.melt_safepoint.specs.declared.thread.ThreadState.{ThreadState}
-use Rattle.melt_safepoint.specs.Threads.{AllWait}
 use Rattle.melt_safepoint.specs.Modes.{MayGo}
-use Rattle.melt_safepoint.proofs.Losses.{counts_same, counts_set}
+use Rattle.melt_safepoint.proofs.Losses.{counts_set}
 use Rattle.melt_step.specs.Turns.{GoesAt}
 use Rattle.melt_safepoint.proofs.Tables.{Table_untold, table_ready}
 use Rattle.melt_safepoint.proofs.TableModes.{stop_known}

@@ -1,14 +1,13 @@
 -- What the events of the call were, where they were made in one go.
-use Rattle.std.proofs.Common.{◌≡◌, ◌≢◌, ◌<◌, Bool, false, true, length, refl, sym, ◌∙◌, ap, rules, subst}
-use Rattle.std.specs.Prelude.{None, Option, Some}
-use Rattle.melt_model.specs.declared.operations.Op.TheVariants.{Collect}
+use Rattle.std.proofs.Common.{◌≡◌, ◌<◌, Bool, false, true, length, refl, sym, ◌∙◌, ap, rules, subst}
+use Rattle.std.specs.Prelude.{None, Option}
 use Rattle.melt_record.specs.declared.damage.Damaged.{Damaged as Damage}
 use Rattle.melt_scion.specs.Heaps.{OnDisk}
 use Rattle.melt_core.specs.declared.answer.Refusal.TheVariants.{Damaged}
 use Rattle.melt_core.specs.declared.answer.StepResult.{StepResult}
 use Rattle.melt_core.specs.declared.answer.StepResult.TheVariants.{Answered, Going, Refused}
 use Rattle.melt_core.specs.declared.call.Call.{Call}
-use Rattle.melt_core.specs.Advances.{Advances, IsAnswered, IsDamage, MayAdvance, Moves, MovesBy, MovesOn, Uses}
+use Rattle.melt_core.specs.Advances.{Advances, IsDamage, MayAdvance, Moves, MovesBy, MovesOn}
 use Rattle.melt_core.specs.Stages.{NeedsNoRead}
 use Rattle.melt_core.specs.Views.{Standing, call_of, stage_in, stage_of, view}
 use Rattle.melt_core.proofs.Disks.{moves_advance}

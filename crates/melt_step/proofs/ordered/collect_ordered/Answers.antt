@@ -3,7 +3,7 @@ use Rattle.std.proofs.Common.{◌≡◌, ap, sym, subst}
 use Rattle.std.specs.Prelude.{◌==◌, Bool, Err, Result}
 use Rattle.melt_model.specs.declared.reports.Phase.{Phase}
 use Rattle.melt_move.specs.Planned.{phase_done}
-use Rattle.melt_core.specs.Views.{View, stores, view}
+use Rattle.melt_core.specs.Views.{View, view}
 use Rattle.melt_safepoint.specs.Collections.{CollectsCore, IsRefusedCore, MayCollect}
 use Rattle.melt_safepoint.specs.Shown.{Shown, shown_by}
 use Rattle.melt_safepoint.specs.declared.collector.CollectRefusal.{CollectRefusal}

@@ -1,10 +1,7 @@
 -- The state that was read is that of the line's thread.
-use Rattle.std.proofs.Common.{◌≡◌, ◌≢◌, ◌+◌, ◌-◌, inl, inr, List, ℕ, true, Some, slice_get, refl, sym, ◌∙◌, subst}
+use Rattle.std.proofs.Common.{◌≡◌, ◌≢◌, ◌+◌, ◌-◌, inl, inr, true, refl}
 use Rattle.std.proofs.Common.{arith}
-use Rattle.std.proofs.lemmas.Option.{slice_get_read, same_Some}
-use Rattle.melt_safepoint.specs.declared.thread.ThreadState.{ThreadState}
-use Rattle.melt_safepoint.specs.Modes.{MayGo}
-use Rattle.melt_step.specs.Turns.{GoesAt, OfLine}
+use Rattle.melt_step.specs.Turns.{OfLine}
 use Rattle.melt_step.specs.declared.turns.Turns.{Turns}
 use Rattle.melt_step.proofs.Turning.{of_line, dropped_more}
 use Rattle.melt_step.proofs.turns.Turns.by_line.Goals as goal

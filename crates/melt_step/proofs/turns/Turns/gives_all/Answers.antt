@@ -1,10 +1,9 @@
 -- The first thread that can go on is the one, and none behind it can.
-use Rattle.std.proofs.Common.{◌≡◌, ℕ, ◌+◌, ◌<◌, ◌≤◌, rules, arith, inl, inr, refl, subst, List}
+use Rattle.std.proofs.Common.{◌≡◌, ℕ, ◌+◌, ◌≤◌, rules, arith, inl, inr, refl, subst, List}
 use Rattle.std.proofs.lemmas.Bool.{cases_eq, cases_lt}
-use Rattle.std.specs.Prelude.{IfNone, None, Option, Some, slice_get, true}
+use Rattle.std.specs.Prelude.{IfNone, None, Option, Some, slice_get}
 use Rattle.melt_safepoint.specs.declared.thread.ThreadState.{ThreadState}
 use Rattle.melt_safepoint.specs.Modes.{MayGo}
-use Rattle.melt_step.specs.Turns.{GivesAll, GoesAt}
 use Rattle.melt_step.proofs.turns.Turns.gives_all.Goals as goal
 
 pub returns-clause-all : goal.returns-clause-all
