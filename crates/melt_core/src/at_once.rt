@@ -106,6 +106,8 @@ impl Core {
     /// finds no word with a tag and lacks no words. It is `advance` as often as it takes, for a thread of which no call
     /// is in flight, and while no other thread goes on. Where it answers `Going`, the call is in flight, and its other
     /// events are to be made by `advance`. It uses no disk, and takes no memory.
+    // (inlined, as its callers are few and make most calls)
+    #[inline(always)]
     pub fn call_at_once(&mut self, thread: u32, op: Op) -> StepResult
         requires asks { MayMove (view self.old) thread op }
         requires first { call_of (view self.old) thread ≡ None }

@@ -98,6 +98,8 @@ impl Core {
     }
 
     /// The reference at a place.
+    // (inlined for the same reason as `look`)
+    #[inline(always)]
     fn reference_in(&self, place: Place) -> Ref
         requires { StandsAt (view self.now) place }
         ensures { (disk : OnDisk) → HoldsRef (word_in (state disk (view self.now)) place) result }
@@ -106,6 +108,8 @@ impl Core {
     }
 
     /// Answers a load with the object at an address, or with none where that is 0.
+    // (inlined for the same reason as `look`)
+    #[inline(always)]
     fn read(&mut self, thread: u32, place: Place, dst: u8, address: u32) -> StepResult
         requires thread { thread < length (view self.old).held }
         requires calls { thread < length (view self.old).calls }

@@ -67,6 +67,8 @@ pub fn drop_if_ended(core: &mut Core, mode: Mode, thread: u32)
 }
 
 /// A thread got a reply.
+// (inlined for the same reason as `make_turn`)
+#[inline(always)]
 pub fn answered(core: &mut Core, state: &mut ThreadState<'_>, thread: u32, reply: Reply, every: u32)
     requires thread { thread < length (view core.old).held }
     requires no_call { call_of (view core.old) thread ≡ None }
