@@ -1,7 +1,9 @@
 -- Events of one call, each right behind the one before.
-use Rattle.std.proofs.Common.{◌≡◌, ℕ, zero, suc, ◌<◌, ◌^◌, length, refl, sym, ◌∙◌, ap, subst, arith}
+use Rattle.std.proofs.Common.{◌≡◌, ℕ, zero, suc, ◌+◌, ◌<◌, ◌^◌, List, [], ◌∷◌, length, inl, inr, refl, sym, ◌∙◌, ap, subst, arith}
+use Rattle.std.proofs.lemmas.Bool.{cases_lt}
+use Rattle.std.proofs.lemmas.List.{get_or-set_same, get_or_past}
 use Rattle.std.proofs.lemmas.Option.{same_Some}
-use Rattle.std.specs.Prelude.{false, Option, None, Some}
+use Rattle.std.specs.Prelude.{false, Option, None, Some, slice_index_or, slice_set}
 use Rattle.melt_model.specs.declared.operations.Op.{Op}
 use Rattle.melt_word.specs.declared.header.Shape.{Shape}
 use Rattle.melt_core.specs.declared.answer.Pause.TheVariants.{Asked, Space, Forward}
@@ -15,7 +17,12 @@ use Rattle.melt_core.specs.declared.call.Search.{Search}
 use Rattle.melt_core.specs.declared.call.Stage.{Stage}
 use Rattle.melt_core.specs.declared.call.Stage.TheVariants.{Claimed, Headed, Polled}
 use Rattle.melt_core.specs.declared.call.Task.{Task}
+use Rattle.melt_word.specs.Words.{cost_of}
+use Rattle.melt_space.specs.Space.{IsWord, SetsWord, SpaceWords}
 use Rattle.melt_scion.specs.Heaps.{register_in}
+use Rattle.melt_core.specs.Changed.{with_call}
+use Rattle.melt_core.proofs.Asked.{asks_over, call_at}
+use Rattle.melt_core.proofs.Making.{claimed_known, store_zero_advances}
 use Rattle.melt_core.specs.Advances.{AdvancesOver, Asks, Continues, Goes, InBounds, MayMove, Moves, MovesBy, MovesOn}
 use Rattle.melt_core.specs.Advances.{Refuses}
 use Rattle.melt_core.specs.Stages.{Lacks, Next, ReadsAt, SearchesOn, task_of}
@@ -133,3 +140,64 @@ last_on {v} {u} {w} {t} {o} {stage} goes is well moves = record {
   refused = λ why refused. absurd (not_refused u w t o why stage goes.may is well
       (subst (λ (r : StepResult). Moves u w t o r) refused moves));
 }
+
+-- Words are stored in a region one after the other, and the stages between are written nowhere.
+
+set_twice : {A : Type 0} (xs : List A) (i : ℕ) (a b : A) → slice_set (slice_set xs i a) i b ≡ slice_set xs i b
+set_twice [] i a b = refl
+set_twice (x ∷ xs) zero a b = refl
+set_twice (x ∷ xs) (suc i) a b = ap (λ (ys : List _). x ∷ ys) (set_twice xs i a b)
+
+set_found : {A : Type 0} (xs : List A) (i : ℕ) (d : A) → slice_set xs i (slice_index_or xs i d) ≡ xs
+set_found [] i d = refl
+set_found (x ∷ xs) zero d = refl
+set_found (x ∷ xs) (suc i) d = ap (λ (ys : List _). x ∷ ys) (set_found xs i d)
+
+-- the call of a thread that makes an object, of whose words behind the header so many were stored
+abbrev pub making : Op → ℕ → Shape → ℕ → ℕ → Call
+making o address shape stored dst = record { op = o; stage = Claimed address shape stored dst }
+
+-- the call is as it is
+pub made_none : {v w : View} {t : ℕ} {o : Op} {address dst : ℕ} {shape : Shape} → GoesOn v w t o
+    → stage_of w t ≡ Some (Claimed address shape 0 dst)
+    → GoesOn v (with_call w t (Some (making o address shape 0 dst))) t o
+made_none {v} {w} {t} {o} {address} {dst} {shape} goes at =
+    let call : call_of w t ≡ Some (making o address shape 0 dst) =
+    call_at goes.may.disk w t o (Claimed address shape 0 dst) goes.may.asks at in
+    subst (λ (calls : List (Option Call)). GoesOn v (record w { calls = calls }) t o)
+    (sym (ap (λ (c : Option Call). slice_set w.calls t c) (sym call) ∙ set_found w.calls t None)) goes
+
+-- the next word is one of the space
+pub zero_word : {v : View} {t : ℕ} {o : Op} (m : View) (address stored dst : ℕ) (shape : Shape)
+    → GoesOn v (with_call m t (Some (making o address shape stored dst))) t o → t < length m.calls
+    → stored + 1 < cost_of shape → IsWord m.space (address + 1 + stored)
+zero_word {v} {t} {o} m address stored dst shape goes within few =
+    let call : Option Call = Some (making o address shape stored dst) in
+    let known = claimed_known {dst = dst} goes.may.asks (ap stage_in (get_or-set_same m.calls t call None within)) in
+    let owns = known.1.owns in
+    record { first = omega (arith, owns.first); last = omega (arith, owns.within, few) }
+
+-- and once 0 stands there, the call has gone on
+pub zero_on : {v : View} {t : ℕ} {o : Op} (m : View) (space : SpaceWords) (address stored dst : ℕ) (shape : Shape)
+    → GoesOn v (with_call m t (Some (making o address shape stored dst))) t o → t < length m.calls
+    → stored + 1 < cost_of shape → SetsWord m.space space (address + 1 + stored) 0
+    → GoesOn v (with_call (record m { space = space }) t (Some (making o address shape (stored + 1) dst))) t o
+zero_on {v} {t} {o} m space address stored dst shape goes within few sets =
+    let before : Option Call = Some (making o address shape stored dst) in
+    let after : Option Call = Some (making o address shape (stored + 1) dst) in
+    let u : View = with_call m t before in
+    let at : stage_of u t ≡ Some (Claimed address shape stored dst) =
+    ap stage_in (get_or-set_same m.calls t before None within) in
+    let moves : Moves u (with_call (record u { space = space }) t after) t o Going = record {
+      over = λ disk stands. store_zero_advances (asks_over u t o goes.may disk stands) at few sets;
+    } in
+    subst (λ (calls : List (Option Call)). GoesOn v (record m { space = space; calls = calls }) t o)
+    (set_twice m.calls t before after)
+    (next_on v u (with_call (record u { space = space }) t after) t o goes moves)
+
+-- a thread that has a call is one of the threads
+pub call_within : (v : View) (t : ℕ) (call : Call) → call_of v t ≡ Some call → t < length v.calls
+call_within v t call is = elim (cases_lt t (length v.calls)) [
+  | inl below ↦ below
+  | inr past ↦ absurd (let none : None ≡ Some call = sym (get_or_past v.calls t None past) ∙ is in cc)
+]

@@ -320,7 +320,7 @@ claim_advances disk {v} {t} {need} {o} {shape} {before} {room} {none} {stage} cl
     (record { history = refl; registers = refl; values = refl }) refl) tt
 
 -- a call whose region is at a place
-claimed_known : {disk : OnDisk} {v : View} {t : ℕ} {o : Op} {address stored dst : ℕ} {shape : Shape} → Asks disk v t o
+pub claimed_known : {disk : OnDisk} {v : View} {t : ℕ} {o : Op} {address stored dst : ℕ} {shape : Shape} → Asks disk v t o
     → stage_of v t ≡ Some (Claimed address shape stored dst)
     → IsShape shape × HasStored (maps v) (state disk v) (region address shape) (λ k. 0) stored
 claimed_known {disk} {v} {t} {o} {address} {stored} {dst} {shape} asks at =

@@ -1,8 +1,9 @@
 //! A call in one go, for a thread that goes on alone.
 //!
 //! Its events are those of `advance`, one right after the other, and each is made by the same function. What is saved
-//! is the way between them: the stage that a call has reached is known where it was reached. A call that comes to a
-//! stage from which few calls go on is left there, in flight, for `advance`.
+//! is the way between them: the stage that a call has reached is known where it was reached. So the words of a new
+//! object are stored without a stage written between any two of them. A call that comes to a stage from which few
+//! calls go on is left there, in flight, for `advance`.
 ghost use Rattle.std.specs.Prelude.{◌≡◌, ◌↔◌, ◌<◌, length, IsTrue, Some, None};
 ghost use Rattle.melt_core.specs.Advances.{MayMove, MovesOn};
 ghost use Rattle.melt_core.specs.Stages.{task_of};
@@ -59,13 +60,8 @@ impl Core {
         };
         let last = cost(shape) - 1;
         for stored in 0..last {
-            let claim = Claim {
-                address,
-                shape,
-                stored,
-                dst,
-            };
-            self.store_zero(thread, op, claim);
+            // (nobody reads the stages between these events, so that none is written)
+            self.set_word(address + 1 + stored, 0);
         }
         let claim = Claim {
             address,
@@ -73,6 +69,7 @@ impl Core {
             stored: last,
             dst,
         };
+        self.set_stage(thread, op, claim.stage());
         self.publish(thread, op, claim)
     }
 

@@ -25,6 +25,26 @@ pub(crate) struct Claim {
     pub(crate) dst: u8,
 }
 
+impl Claim {
+    /// The stage of the call.
+    pub(crate) fn stage(self) -> Stage
+        ensures { result ≡ Stage.Claimed self.address self.shape self.stored self.dst }
+    {
+        let Claim {
+            address,
+            shape,
+            stored,
+            dst,
+        } = self;
+        Stage::Claimed {
+            address,
+            shape,
+            stored,
+            dst,
+        }
+    }
+}
+
 impl Core {
     /// Claims the words for an object, and answers their address, if they do not end past the last word of the heap.
     pub(crate) fn claim_region(&mut self, thread: u32, op: Op, shape: Shape, dst: u8) -> Option<u32>
