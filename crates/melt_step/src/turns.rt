@@ -63,6 +63,8 @@ impl Turns {
 
     /// The thread that has the next event, if one can go on. Behind the last line the threads take one event each, in
     /// ascending order and again from the first. A line that is begun is not taken up again once no thread can go on.
+    // (inlined, since it is asked before each event)
+    #[inline(always)]
     pub fn next(&mut self, trace: &Trace, states: &[ThreadState<'_>]) -> Option<u32>
         requires { length states.now ≤ 8 }
         ensures goes { IfSome result (λ t. (s : ThreadState) × (slice_get states.now t ≡ Some s) × MayGo s.mode) }
