@@ -22,7 +22,7 @@ ghost use Rattle.melt_copy.specs.Tracking.{Grows, Tracks, TracksAt, TracksFor, e
 
 use melt_model::{NoMemory, Phase};
 use melt_space::Space;
-use melt_word::{Ref, Shape, cost, decode_ref, encode_ref};
+use melt_word::{Ref, Shape, cost, encode_ref, reference_of};
 use std::alloc::Global;
 
 /// An object that was found: its address, the address that it gets, and its shape.
@@ -136,7 +136,7 @@ impl Forwarding {
         ensures grows { Grows self.old self.new }
         ensures tracks { (s : State) → TracksFor space.now s self.old word → Tracks space.now s self.new }
     {
-        if let Ok(Ref::Clean(address) | Ref::Stale(address)) = decode_ref(word) {
+        if let Ref::Clean(address) | Ref::Stale(address) = reference_of(word) {
             self.find(space, address)?;
         }
         Ok(())
@@ -150,12 +150,10 @@ impl Forwarding {
         ensures grows { Grows self.old self.new }
         ensures tracks { (s : State) → TracksFor space.now s self.old word → Tracks space.now s self.new }
     {
-        match decode_ref(word) {
-            Ok(Ref::Clean(address)) => Ok(encode_ref(tagged(phase, self.find(space, address)?))),
-            Ok(Ref::Stale(address)) => Ok(encode_ref(Ref::Stale(self.find(space, address)?))),
-            Ok(Ref::Null | Ref::Disk(_)) => Ok(word),
-            // A slot or a global always has the word of a reference.
-            Err(_) => unreachable!(),
+        match reference_of(word) {
+            Ref::Clean(address) => Ok(encode_ref(tagged(phase, self.find(space, address)?))),
+            Ref::Stale(address) => Ok(encode_ref(Ref::Stale(self.find(space, address)?))),
+            Ref::Null | Ref::Disk(_) => Ok(word),
         }
     }
 }

@@ -1,6 +1,7 @@
 //! Steps on the parts of a core, each of which changes one of them and says nothing of the others' meaning.
 ghost use Rattle.std.specs.Prelude.{◌≡◌, ℕ, ◌+◌, ◌*◌, ◌^◌, ◌<◌, ◌≤◌, length, slice_set, Some, None, MatchOption};
-ghost use Rattle.std.specs.Prelude.{unwrap_or};
+ghost use Rattle.std.specs.Prelude.{[], ◌∷◌, ◌++◌, unwrap_or};
+ghost use Rattle.std.specs.Vec.{vec_capacity};
 ghost use Rattle.melt_word.specs.declared.reference.Ref.{Ref};
 ghost use Rattle.melt_space.specs.Space.{IsWord};
 ghost use Rattle.melt_scion.specs.Heaps.{OnDisk, register_in};
@@ -17,7 +18,7 @@ use crate::call::{Call, Place, Stage};
 use crate::machine::Core;
 use melt_model::{Act, Entry, Ghost, Op, Reply, Slot, Value};
 use melt_scion::{GhostMaps, Globals, Names};
-use melt_word::{Ref, Shape, decode_ref, encode_ref};
+use melt_word::{Ref, Shape, encode_ref, reference_of};
 
 /// A number word of the object at the address, which has this shape.
 #[derive(Clone, Copy)]
@@ -109,6 +110,21 @@ fn act_of(names: &Names, deed: Deed) -> Act
     }
 }
 
+/// Writes an entry behind those that are stored. There is room for it.
+// (not inlined, so that a run that stores none has nothing of it beside its events)
+#[inline(never)]
+fn write_entry(log: &mut Vec<Entry>, names: &Names, thread: u32, deed: Deed)
+    requires thread { thread < 256 }
+    requires room { length log.old.items < vec_capacity log.old }
+    ensures items { log.new.items ≡ log.old.items ++ entry thread (act_named (maps_of (Some names.now)) deed) ∷ [] }
+    ensures capacity { vec_capacity log.new ≡ vec_capacity log.old }
+{
+    log.push_reserved(Entry {
+        thread: thread as u8,
+        act: act_of(names, deed),
+    });
+}
+
 /// The number that an object gets.
 fn number_for(names: &Names, naming: Naming) -> u32
     ensures { result ≡ number_given (Some names.now) naming }
@@ -124,10 +140,7 @@ pub(crate) fn reference(word: u64) -> Ref
     requires { (r : Ref) × HoldsRef word r }
     ensures { HoldsRef word result }
 {
-    match decode_ref(word) {
-        Ok(reference) => reference,
-        Err(_) => unreachable!(),
-    }
+    reference_of(word)
 }
 
 /// Replaces the word of a global.
@@ -188,21 +201,22 @@ impl Core {
 
     /// Writes the entry of a call into the history: the only place where it grows. Where it is stored, its room was taken
     /// when the core was made, so that an event takes no memory; else it grows for contracts alone.
+    // (inlined, since most runs store none, and then nothing is done)
+    #[inline(always)]
     pub(crate) fn note(&mut self, thread: u32, deed: Deed)
         requires thread { thread < 256 }
         requires room { HasRoomForEntry (view self.old) }
         ensures { view self.new ≡ noted (view self.old) (entry thread (act_named (maps (view self.old)) deed)) }
     {
         match &self.heap.names {
-            Some(names) => self.rest.log.push_reserved(Entry {
-                thread: thread as u8,
-                act: act_of(names, deed),
-            }),
+            Some(names) => write_entry(&mut self.rest.log, names, thread, deed),
             None => self.rest.told = Ghost::pick(&(&*self, thread, deed)),
         }
     }
 
     /// Gives the object at an address its number.
+    // (inlined for the same reason as `note`)
+    #[inline(always)]
     pub(crate) fn name(&mut self, address: u32, naming: Naming)
         requires first { 1 ≤ address }
         requires last { address ≤ length (numbers_of (view self.old).names) }

@@ -24,7 +24,7 @@ use melt_disk::StaleSpace;
 use melt_io::{Failed, StaleDisk};
 use melt_model::Steps;
 use melt_space::Space;
-use melt_word::{MAX_PARTS, Ref, cost, decode_ref, encode_ref};
+use melt_word::{MAX_PARTS, Ref, cost, encode_ref, reference_of};
 use std::sync::ledger::Ledger;
 
 /// How many slots an object has at most: reference slots and number words.
@@ -46,13 +46,11 @@ fn encode_slot(decision: &Decision, space: &Space, word: u64) -> u64
     ensures becomes { (s : State) → IsLeavingRef space.now s decision.now word
         → BecomesHome s decision.now word result }
 {
-    match decode_ref(word) {
-        Ok(Ref::Clean(address) | Ref::Stale(address)) => {
+    match reference_of(word) {
+        Ref::Clean(address) | Ref::Stale(address) => {
             encode_ref(refer_home(decision, space, address))
         }
-        Ok(Ref::Null | Ref::Disk(_)) => word,
-        // A slot always has the word of a reference.
-        Err(_) => unreachable!(),
+        Ref::Null | Ref::Disk(_) => word,
     }
 }
 

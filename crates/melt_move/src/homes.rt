@@ -16,7 +16,7 @@ ghost use Rattle.melt_move.specs.Visits.{leaving_words};
 use crate::choice::{Choice, Departure};
 use melt_model::{NoMemory, Steps};
 use melt_space::Space;
-use melt_word::{Ref, Shape, cost, decode_ref};
+use melt_word::{Ref, Shape, cost, reference_of};
 use std::alloc::Global;
 use std::sync::ledger::Ledger;
 
@@ -65,11 +65,9 @@ fn address_in(word: u64) -> Option<u32>
     requires { IsRefWord word }
     ensures { (address : ℕ) → (result ≡ Some address) ↔ RefersTo word address }
 {
-    match decode_ref(word) {
-        Ok(Ref::Clean(address) | Ref::Stale(address)) => Some(address),
-        Ok(Ref::Null | Ref::Disk(_)) => None,
-        // A slot always has the word of a reference.
-        Err(_) => unreachable!(),
+    match reference_of(word) {
+        Ref::Clean(address) | Ref::Stale(address) => Some(address),
+        Ref::Null | Ref::Disk(_) => None,
     }
 }
 

@@ -22,7 +22,7 @@ use crate::decision::Decision;
 use melt_copy::{Relocation, move_header, push_words, visit_words};
 use melt_model::{Phase, Steps};
 use melt_space::Space;
-use melt_word::{Ref, cost, decode_ref, encode_ref};
+use melt_word::{Ref, cost, encode_ref, reference_of};
 use std::sync::ledger::Ledger;
 
 /// A reference to an object that can be reached, as it stays: stale, or the home of an object that leaves.
@@ -43,13 +43,9 @@ fn stays_as(decision: &Decision, space: &Space, word: u64) -> u64
     requires { (s : State) × IsSource space.now s decision.now word }
     ensures { (s : State) → IsSource space.now s decision.now word → StaysAs s decision.now word result }
 {
-    match decode_ref(word) {
-        Ok(Ref::Clean(address) | Ref::Stale(address)) => {
-            encode_ref(refer_to(decision, space, address))
-        }
-        Ok(Ref::Null | Ref::Disk(_)) => word,
-        // A slot or a global always has the word of a reference.
-        Err(_) => unreachable!(),
+    match reference_of(word) {
+        Ref::Clean(address) | Ref::Stale(address) => encode_ref(refer_to(decision, space, address)),
+        Ref::Null | Ref::Disk(_) => word,
     }
 }
 

@@ -13,7 +13,6 @@
 mod barrier;
 pub mod began;
 mod coming;
-mod decode;
 pub mod ended;
 mod law;
 mod making;

@@ -15,7 +15,6 @@ ghost use Rattle.melt_rule.specs.Tells.{Asks, Ends, Heads, Looks, Names, Polls, 
 ghost use Rattle.melt_rule.specs.declared.view.Doing.TheVariants.{Polled};
 
 use crate::began::Start;
-use crate::decode::{ref_of, shape_of};
 use crate::law::Law;
 use crate::plays::{
     Ask, LoadGlobal, LoadHeader, LoadNumber, LoadSlot, Poll, SetStop, StoreGlobal, StoreNumber,
@@ -24,7 +23,7 @@ use crate::plays::{
 use crate::view::View;
 use atomic_table::{Seat, Table};
 use melt_model::Ghost;
-use melt_word::{Ref, Shape, held_word};
+use melt_word::{Ref, Shape, held_word, reference_of, shape_of};
 use std::alloc::Global;
 use std::marker::Model;
 
@@ -128,7 +127,7 @@ impl Words {
     {
         let at = self.before + address as usize + 2 + i as usize;
         let word = self.table.shared.load::<LoadSlot>(seat, at);
-        ref_of(word)
+        reference_of(word)
     }
 
     /// Looks at a global.
@@ -143,7 +142,7 @@ impl Words {
             .table
             .shared
             .load::<LoadGlobal>(seat, GLOBALS_AT + g as usize);
-        ref_of(word)
+        reference_of(word)
     }
 
     /// Reads number word `j` of an object of this shape, whose header was loaded.

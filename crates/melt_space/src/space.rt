@@ -8,7 +8,7 @@ ghost use Rattle.melt_space.specs.Space.{AreWords, HasHeader, IsFresh, IsSpace, 
 ghost use Rattle.melt_space.specs.Space.{SetsWord, word_at};
 
 use melt_model::NoMemory;
-use melt_word::{Header, Shape, cost, decode_header, encode_header};
+use melt_word::{Header, Shape, cost, encode_header, shape_of};
 use std::alloc::Global;
 use std::marker::Model;
 use std::mem::replace;
@@ -126,10 +126,7 @@ impl Space {
         requires header { HasHeader self.now address }
         ensures { (h : Header) → IsHeader h → word_at self.now address ≡ header_word h → result ≡ h.shape }
     {
-        match decode_header(self.word(address)) {
-            Ok(header) => header.shape,
-            Err(_) => unreachable!(),
-        }
+        shape_of(self.word(address))
     }
 
     /// The word at an address, from 1 to the number of words.

@@ -68,6 +68,18 @@ pub fn decode_header(word: u64) -> Result<Header, BadHeader>
     Ok(Header { shape, stale })
 }
 
+/// The shape that a word tells which is known to be that of a header. Nothing is tested.
+#[inline(always)]
+pub fn shape_of(word: u64) -> Shape
+    requires { (h : Header) × IsHeader h × (word ≡ header_word h) }
+    ensures { (h : Header) → IsHeader h → word ≡ header_word h → result ≡ h.shape }
+{
+    Shape {
+        refs: ((word >> REFS_SHIFT) & BYTE_MASK) as u8,
+        nums: ((word >> NUMS_SHIFT) & BYTE_MASK) as u8,
+    }
+}
+
 /// How many words an object of the shape takes: its header, its home word and its parts. From 2 to
 /// 126 for a shape in range.
 pub fn cost(shape: Shape) -> u32

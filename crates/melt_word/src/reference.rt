@@ -98,6 +98,24 @@ pub fn decode_ref(word: u64) -> Result<Ref, BadWord>
     }
 }
 
+/// The reference that a word holds which is known to hold one. Nothing is tested but its tag.
+#[inline(always)]
+pub fn reference_of(word: u64) -> Ref
+    requires { (r : Ref) × IsRef r × (word ≡ ref_word r) }
+    ensures in_range { IsRef result }
+    ensures is { word ≡ ref_word result }
+{
+    if word == 0 {
+        return Ref::Null;
+    }
+    let number = (word >> TAG_BITS) as u32;
+    match word & TAG_MASK {
+        CLEAN => Ref::Clean(number),
+        STALE => Ref::Stale(number),
+        _ => Ref::Disk(number),
+    }
+}
+
 /// A word holds one reference at most.
 pub fn one_ref_per_word()
     ensures { (r s : Ref) → IsRef r → IsRef s → ref_word r ≡ ref_word s → r ≡ s }

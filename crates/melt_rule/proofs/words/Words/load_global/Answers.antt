@@ -12,15 +12,15 @@ load-word-requires c =
       global_looks _ at.is_seat.live c.requires.polled (rw c.requires.seat.began c.requires.global),
     )
 
-pub ref_of-requires : goal.ref_of-requires
-ref_of-requires c =
+pub reference_of-requires : goal.reference_of-requires
+reference_of-requires c =
     let f = c.load-word.ensures.2.1 c.args.g (rw c.requires.seat.began c.requires.global) refl in
     (f.reference, f.in_range, f.is)
 
 pub returns-clause-looks : goal.returns-clause-looks
 returns-clause-looks c =
     let f = c.load-word.ensures.2.1 c.args.g (rw c.requires.seat.began c.requires.global) refl in
-    looked_as c.ref_of.result f c.ref_of.ensures.in_range c.ref_of.ensures.is
+    looked_as c.reference_of.result f c.reference_of.ensures.in_range c.reference_of.ensures.is
 
 pub returns-clause-seat : goal.returns-clause-seat
 returns-clause-seat c =

@@ -9,8 +9,8 @@ load-word-requires c =
     let part = slot_at at c.args.address c.args.i c.requires.speaks in
     (at.is_seat.same, part.below, looks_at _ at.is_seat.live part.has part.headed part.is part.there)
 
-pub ref_of-requires : goal.ref_of-requires
-ref_of-requires c =
+pub reference_of-requires : goal.reference_of-requires
+reference_of-requires c =
     let at = at_table c.self.inside c.self.view_is c.self.invariant c.requires.seat in
     let part = slot_at at c.args.address c.args.i c.requires.speaks in
     let f = c.load-word.ensures.2.1 c.args.address part.number c.args.i _ part.headed part.has part.is part.there in
@@ -21,7 +21,7 @@ returns-clause-looks c n has =
     let at = at_table c.self.inside c.self.view_is c.self.invariant c.requires.seat in
     let part = slot_at at c.args.address c.args.i c.requires.speaks in
     let f = c.load-word.ensures.2.1 c.args.address n c.args.i _ part.headed has part.is part.there in
-    looked_as c.ref_of.result f c.ref_of.ensures.in_range c.ref_of.ensures.is
+    looked_as c.reference_of.result f c.reference_of.ensures.in_range c.reference_of.ensures.is
 
 pub returns-clause-seat : goal.returns-clause-seat
 returns-clause-seat c =
