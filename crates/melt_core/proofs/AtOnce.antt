@@ -1,31 +1,38 @@
 -- Events of one call, each right behind the one before.
-use Rattle.std.proofs.Common.{◌≡◌, ℕ, zero, suc, ◌+◌, ◌<◌, ◌^◌, List, [], ◌∷◌, length, inl, inr, refl, sym, ◌∙◌, ap, subst, arith}
+use Rattle.std.proofs.Common.{◌≡◌, ℕ, zero, suc, ◌+◌, ◌<◌, ◌^◌, List, length, inl, inr, refl, sym, ◌∙◌, ap, subst, arith}
 use Rattle.std.proofs.lemmas.Bool.{cases_lt}
 use Rattle.std.proofs.lemmas.List.{get_or-set_same, get_or_past}
 use Rattle.std.proofs.lemmas.Option.{same_Some}
-use Rattle.std.specs.Prelude.{false, Option, None, Some, slice_index_or, slice_set}
+use Rattle.std.specs.Prelude.{false, Option, None, Some, slice_set}
 use Rattle.melt_model.specs.declared.operations.Op.{Op}
+use Rattle.melt_model.specs.declared.operations.Reply.TheVariants as reply
+use Rattle.melt_word.specs.declared.header.Header.{Header}
 use Rattle.melt_word.specs.declared.header.Shape.{Shape}
 use Rattle.melt_core.specs.declared.answer.Pause.TheVariants.{Asked, Space, Forward}
 use Rattle.melt_core.specs.declared.answer.Refusal.{Refusal}
 use Rattle.melt_core.specs.declared.answer.Refusal.TheVariants as refusal
 use Rattle.melt_core.specs.declared.answer.StepResult.{StepResult}
-use Rattle.melt_core.specs.declared.answer.StepResult.TheVariants.{Going, Refused}
+use Rattle.melt_core.specs.declared.answer.StepResult.TheVariants.{Answered, Going, Refused}
 use Rattle.melt_core.specs.declared.call.Access.{Access}
 use Rattle.melt_core.specs.declared.call.Call.{Call}
 use Rattle.melt_core.specs.declared.call.Search.{Search}
 use Rattle.melt_core.specs.declared.call.Stage.{Stage}
 use Rattle.melt_core.specs.declared.call.Stage.TheVariants.{Claimed, Headed, Polled}
 use Rattle.melt_core.specs.declared.call.Task.{Task}
-use Rattle.melt_word.specs.Words.{cost_of}
-use Rattle.melt_space.specs.Space.{IsWord, SetsWord, SpaceWords}
+use Rattle.melt_core.specs.declared.call.Task.TheVariants.{Use}
+use Rattle.melt_word.specs.Words.{IsHeader, cost_of, header_word}
+use Rattle.melt_space.specs.Space.{IsWord, SetsWord, SpaceWords, word_at}
 use Rattle.melt_scion.specs.Heaps.{register_in}
-use Rattle.melt_core.specs.Changed.{with_call}
-use Rattle.melt_core.proofs.Asked.{asks_over, call_at}
+use Rattle.melt_core.specs.Changed.{with_stage, with_call}
+use Rattle.melt_core.specs.Known.{IsObjectAt}
+use Rattle.melt_core.proofs.Asked.{asks_over, call_at, set_none}
 use Rattle.melt_core.proofs.Making.{claimed_known, store_zero_advances}
-use Rattle.melt_core.specs.Advances.{AdvancesOver, Asks, Continues, Goes, InBounds, MayMove, Moves, MovesBy, MovesOn}
+use Rattle.melt_core.proofs.Going.{poll_advances}
+use Rattle.melt_core.proofs.Reading.{head_advances, head_object, range_advances}
+use Rattle.melt_core.proofs.Staged.{call_again, set_found, set_twice, staged_stage}
+use Rattle.melt_core.specs.Advances.{AdvancesOver, Asks, Continues, Goes, InBounds, MayMove, Moves, MovesBy, MovesFrom, MovesOn}
 use Rattle.melt_core.specs.Advances.{Refuses}
-use Rattle.melt_core.specs.Stages.{Lacks, Next, ReadsAt, SearchesOn, task_of}
+use Rattle.melt_core.specs.Stages.{HasPart, Lacks, Next, ReadsAt, SearchesOn, Shares, task_of}
 use Rattle.melt_core.specs.Views.{View, call_of, maps, stage_in, stage_of, state}
 
 -- an event over the disk for which a thread asks
@@ -141,17 +148,55 @@ last_on {v} {u} {w} {t} {o} {stage} goes is well moves = record {
       (subst (λ (r : StepResult). Moves u w t o r) refused moves));
 }
 
+-- a call that has read the stop word, which nobody set
+pub polls : {v : View} {t : ℕ} {o : Op} (task : Task) → MayMove v t o → call_of v t ≡ None
+    → Shares (register_in v.held t) o task → v.stop ≡ false → GoesOn v (with_stage v t o (Polled task)) t o
+polls {v} {t} {o} task may none shares runs =
+    first_on v (with_stage v t o (Polled task)) t o may
+    (record { over = λ disk stands. poll_advances disk v t o task (asks_over v t o may disk stands) none shares runs })
+
+-- and then the header of the object in its register
+pub heads : {v : View} {t : ℕ} {o : Op} (r : ℕ) {address : ℕ} (access : Access) (shape : Shape)
+    → GoesOn v (with_stage v t o (Polled (Use r access))) t o → address ≡ register_in v.held t r
+    → ((h : Header) → IsHeader h → word_at v.space address ≡ header_word h → shape ≡ h.shape) → HasPart access shape
+    → GoesOn v (with_stage v t o (Headed address shape access)) t o
+heads {v} {t} {o} r {address} access shape goes is shaped part =
+    let u : View = with_stage v t o (Polled (Use r access)) in
+    next_on v u (with_stage v t o (Headed address shape access)) t o goes (record {
+      over = λ disk stands.
+          let asks = asks_over u t o goes.may disk stands in
+          let at = staged_stage v t o (Polled (Use r access)) asks in
+          subst (λ (w : View). AdvancesOver disk u w t o Going) (call_again v t o (Polled (Use r access)) _)
+          (head_advances asks at is (head_object shape asks at is shaped) part);
+    })
+
+-- which has no such part
+pub ranges : {v : View} {t : ℕ} {o : Op} (r : ℕ) {address : ℕ} (access : Access) (shape : Shape)
+    → GoesOn v (with_stage v t o (Polled (Use r access))) t o → call_of v t ≡ None → address ≡ register_in v.held t r
+    → ((h : Header) → IsHeader h → word_at v.space address ≡ header_word h → shape ≡ h.shape)
+    → (HasPart access shape → ⊥) → MovesOn v v t o (Answered reply.Range)
+ranges {v} {t} {o} r access shape goes none is shaped lacks =
+    let stage : Stage = Polled (Use r access) in
+    let u : View = with_stage v t o stage in
+    let over : View = with_call u t None in
+    let same : over ≡ v = call_again v t o stage None
+    ∙ ap (λ (calls : List (Option Call)). record v { calls = calls }) (sym (set_none v.calls t none)) in
+    last_on goes (staged_stage v t o stage goes.may.asks) (polled_well (Use r access)) (record {
+      over = λ disk stands.
+          let asks = asks_over u t o goes.may disk stands in
+          let at = staged_stage v t o stage asks in
+          subst (λ (w : View). AdvancesOver disk u w t o (Answered reply.Range)) same
+          (range_advances asks at (subst (λ (a : ℕ). IsObjectAt (maps v) (state disk v) a shape) is
+          (head_object shape asks at is shaped)) lacks);
+    })
+
+-- the last event, of a call whose stage was not written
+pub last_from : {v w : View} {t : ℕ} {o : Op} {result : StepResult} {stage : Stage}
+    → GoesOn v (with_stage v t o stage) t o → GoesWell stage → MovesFrom v w t o stage result → MovesOn v w t o result
+last_from {v} {t} {o} {stage} goes well moves =
+    last_on goes (staged_stage v t o stage goes.may.asks) well moves
+
 -- Words are stored in a region one after the other, and the stages between are written nowhere.
-
-set_twice : {A : Type 0} (xs : List A) (i : ℕ) (a b : A) → slice_set (slice_set xs i a) i b ≡ slice_set xs i b
-set_twice [] i a b = refl
-set_twice (x ∷ xs) zero a b = refl
-set_twice (x ∷ xs) (suc i) a b = ap (λ (ys : List _). x ∷ ys) (set_twice xs i a b)
-
-set_found : {A : Type 0} (xs : List A) (i : ℕ) (d : A) → slice_set xs i (slice_index_or xs i d) ≡ xs
-set_found [] i d = refl
-set_found (x ∷ xs) zero d = refl
-set_found (x ∷ xs) (suc i) d = ap (λ (ys : List _). x ∷ ys) (set_found xs i d)
 
 -- the call of a thread that makes an object, of whose words behind the header so many were stored
 abbrev pub making : Op → ℕ → Shape → ℕ → ℕ → Call

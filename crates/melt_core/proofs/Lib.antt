@@ -24,6 +24,7 @@ pub mod AtOnce
 pub mod Words
 pub mod Going
 pub mod Tasks
+pub mod Unread
 pub mod Registers
 pub mod Objects
 pub mod Answered
@@ -41,6 +42,7 @@ pub mod Retaining
 pub mod Refusing
 pub mod Searching
 pub mod ReadsLeft
+pub mod Staged
 pub mod Recorded
 pub mod NoHomes
 pub mod Entered

@@ -241,7 +241,7 @@ home_tagged : (disk : OnDisk) (v : View) (place : Place) (home : ℕ) → Standi
     → IsPlace (maps v) (state disk v) place
     → word_in (state disk v) place ≡ ref_word (Disk home) → IsTagged (word_in (state disk v) place)
 home_tagged disk v place home s there is =
-    let word = place_word disk v place s there in
+    let word = place_word disk v place s.holds.formed there in
     record {
       reference = word.reference;
       in_range = word.in_range;

@@ -12,7 +12,7 @@ use Rattle.melt_word.specs.declared.reference.Ref.{Ref}
 use Rattle.melt_word.specs.declared.reference.Ref.TheVariants.{Null, Clean, Stale, Disk}
 use Rattle.melt_word.proofs.OneToOne.{same_ref}
 use Rattle.melt_space.specs.Space.{word_at}
-use Rattle.melt_scion.specs.Placed.{MayStand, IsReferenceWord, value_of}
+use Rattle.melt_scion.specs.Placed.{FormedWords, MayStand, IsReferenceWord, value_of}
 use Rattle.melt_scion.specs.Heaps.{OnDisk, register_in}
 use Rattle.melt_core.specs.declared.call.Place.{Place}
 use Rattle.melt_core.specs.declared.call.Place.TheVariants.{Field, Global}
@@ -74,21 +74,21 @@ object_shape disk v address n shape s object named =
     ∙ ap (λ (z : Shape). Some (shape_of z)) object.shape_is
 
 -- the word at a place is one of a reference
-pub place_word : (disk : OnDisk) (v : View) (place : Place) → Standing false disk v
+pub place_word : (disk : OnDisk) (v : View) (place : Place) → FormedWords (maps v) (state disk v)
     → IsPlace (maps v) (state disk v) place
     → IsReferenceWord (maps v) (state disk v) (word_in (state disk v) place)
-place_word disk v (Field object i) s there =
+place_word disk v (Field object i) formed there =
     let refs : there.1.header.shape.refs ≡ there.0.refs = ap (λ (x : Shape). x.refs) there.1.shape_is in
     let below : i < there.0.refs = there.2 in
-    s.holds.formed.slots object there.1.number i there.1.header there.1.named there.1.starts (omega arith)
-place_word disk v (Global g) s there = s.holds.formed.globals g there
+    formed.slots object there.1.number i there.1.header there.1.named there.1.starts (omega arith)
+place_word disk v (Global g) formed there = formed.globals g there
 
 -- what a reference that was decoded may be
 pub may_stand_there : (disk : OnDisk) (v : View) (place : Place) (r : Ref) → Standing false disk v
     → IsPlace (maps v) (state disk v) place
     → HoldsRef (word_in (state disk v) place) r → MayStand (maps v) (state disk v) r
 may_stand_there disk v place r s there holds =
-    let word = place_word disk v place s there in
+    let word = place_word disk v place s.holds.formed there in
     subst (MayStand (maps v) (state disk v))
     (same_ref word.reference r word.in_range holds.in_range (sym word.is ∙ holds.is)) word.stands
 
@@ -131,5 +131,5 @@ pub stale_address : (disk : OnDisk) (v : View) (place : Place) (a : ℕ) → Sta
     → IsPlace (maps v) (state disk v) place
     → word_in (state disk v) place ≡ ref_word (Stale a) → IsAddress a
 stale_address disk v place a s there is =
-    let word = place_word disk v place s there in
+    let word = place_word disk v place s.holds.formed there in
     stale_number word.reference a word.in_range (sym is ∙ word.is)

@@ -27,7 +27,7 @@ use Rattle.melt_core.specs.Answering.{Answers, entry}
 use Rattle.melt_core.specs.Known.{IsObjectAt, IsPlace, SlotAt}
 use Rattle.melt_core.specs.Events.{Event, PlaceChanges, writes_place, writes_number, number_place}
 use Rattle.melt_core.specs.Stages.{Fits, LoadsAt, StoresFrom, Applies, change_of}
-use Rattle.melt_core.specs.Changed.{with_call, noted}
+use Rattle.melt_core.specs.Changed.{with_stage, with_call, noted}
 use Rattle.melt_core.specs.Advances.{Asks, AdvancesOver, HasRoomFor, InBounds}
 use Rattle.melt_core.specs.Views.{View, Standing, maps, state, stage_of, values_of, held_value, registers_in, rest_of}
 use Rattle.melt_core.proofs.Asked.{fits_at, known_at}
@@ -36,12 +36,18 @@ use Rattle.melt_core.proofs.Plain.{MakesNothing}
 use Rattle.melt_core.proofs.Answered.{Ends, ends_at, local_still, over_advances, use_room}
 use Rattle.melt_core.proofs.Answers.{store_answers, gstore_answers, put_answers}
 use Rattle.melt_core.proofs.Objects.{object_shape, value_named}
+use Rattle.melt_core.proofs.Staged.{noted_again}
 use Rattle.melt_core.proofs.Tasks.{LoadsNothing, no_load, store_is, gstore_is, put_is}
 use Rattle.melt_core.proofs.Values.{value_held, may_value}
 
 -- the view behind a write
 abbrev pub written : View → SpaceWords → List ℕ → ℕ → Act → View
 written v space globals t act = with_call (noted (over v space globals) (entry t act)) t None
+
+-- the call that is over had reached a stage, whether that was written or not
+pub written_again : (v : View) (space : SpaceWords) (globals : List ℕ) (t : ℕ) (o : Op) (stage : Stage) (act : Act)
+    → written (with_stage v t o stage) space globals t act ≡ written v space globals t act
+written_again v space globals t o stage act = noted_again (over v space globals) t o stage (entry t act)
 
 -- What a write shows, which changes no register.
 record Writes (disk : OnDisk) (v w : View) (t : ℕ) (o : Op) (stage : Stage) (act : Act) : Type 0 where

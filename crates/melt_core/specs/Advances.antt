@@ -29,7 +29,7 @@ use Rattle.melt_core.specs.Answering.{Answers, with_entry}
 use Rattle.melt_core.specs.Known.{Evolves, IsPlace, IsTagged, word_in}
 use Rattle.melt_core.specs.Stages.{LoadsAt, Applies, change_of, cleared_by, Next, MustPause, events_left, reads_left}
 use Rattle.melt_core.specs.Stages.{Lacks, SearchesOn, ReadsAt}
-use Rattle.melt_core.specs.Changed.{HasRoomForEntry}
+use Rattle.melt_core.specs.Changed.{HasRoomForEntry, with_stage}
 use Rattle.melt_core.specs.Made.{KeepsMade}
 use Rattle.melt_core.specs.Views.{View, maps, state, values_of, value, registers_in, call_of, stage_of, rest_of}
 use Rattle.melt_core.specs.Views.{Standing}
@@ -216,6 +216,14 @@ AdvancesOver disk v w t o result = AdvancesWhere (Unit {0}) disk v w t o result
 -- over each disk over which the words are well formed
 pub record Moves (v w : View) (t : ℕ) (o : Op) (result : StepResult) : Type 0 where
   pub over : (disk : OnDisk) → Standing false disk v → AdvancesOver disk v w t o result
+
+-- A thread may make the event behind a stage, whether that is written where its call is or not.
+abbrev pub MayMoveFrom : View → ℕ → Op → Stage → Type 0
+MayMoveFrom v t o stage = MayMove (with_stage v t o stage) t o
+
+-- and it was made
+abbrev pub MovesFrom : View → View → ℕ → Op → Stage → StepResult → Type 0
+MovesFrom v w t o stage result = Moves (with_stage v t o stage) w t o result
 
 -- so many events of one call and one more, each right behind the one before: all but the last go on
 abbrev pub MovesBy : ℕ → View → View → ℕ → Op → StepResult → Type 0

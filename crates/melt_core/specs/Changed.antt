@@ -5,12 +5,14 @@ use Rattle.melt_model.specs.Thread.{found}
 use Rattle.melt_model.specs.declared.history.Entry.{Entry}
 use Rattle.melt_model.specs.declared.history.Act.TheVariants.{Read}
 use Rattle.melt_model.specs.declared.history.Slot.{Slot}
+use Rattle.melt_model.specs.declared.operations.Op.{Op}
 use Rattle.melt_word.specs.Words.{IsRef, ref_word}
 use Rattle.melt_word.specs.declared.reference.Ref.{Ref}
 use Rattle.melt_forward.specs.Forwarding.{Sends, SendsAnother, forward_word, probe}
 use Rattle.melt_space.specs.Space.{SetsWord}
 use Rattle.melt_scion.specs.Changes.{NameAppears}
 use Rattle.melt_scion.specs.Heaps.{OnDisk}
+use Rattle.melt_scion.specs.Placed.{FormedWords}
 use Rattle.melt_core.specs.declared.call.Search.{Search}
 use Rattle.melt_core.specs.declared.call.Activation.{Activation}
 use Rattle.melt_core.specs.declared.probing.Probe.{Probe}
@@ -19,6 +21,7 @@ use Rattle.melt_core.specs.declared.answer.StepResult.{StepResult}
 use Rattle.melt_core.specs.declared.answer.StepResult.TheVariants.{Answered}
 use Rattle.melt_core.specs.declared.call.Call.{Call}
 use Rattle.melt_core.specs.declared.call.Place.{Place}
+use Rattle.melt_core.specs.declared.call.Stage.{Stage}
 use Rattle.melt_core.specs.Answering.{entry}
 use Rattle.melt_core.specs.Known.{IsPlace, SlotAt}
 use Rattle.melt_core.specs.Views.{View, Standing, registers_in, numbers_of, maps, state, held_value}
@@ -39,6 +42,10 @@ HasRoomForEntry v = length v.log < v.capacity
 -- the call of a thread is this, or is over
 abbrev pub with_call : View → ℕ → Option Call → View
 with_call v t call = record v { calls = slice_set v.calls t call }
+
+-- the call of a thread is of this operation, and at this stage
+abbrev pub with_stage : View → ℕ → Op → Stage → View
+with_stage v t o stage = with_call v t (Some (record { op = o; stage = stage }))
 
 -- a register of a thread holds this address
 abbrev pub with_register : View → ℕ → ℕ → ℕ → View
@@ -76,7 +83,7 @@ HasPlace v place = (disk : OnDisk) × IsPlace (maps v) (state disk v) place
 -- and the words are well formed over it
 pub record StandsAt (v : View) (place : Place) : Type 0 where
   pub disk : OnDisk
-  pub stands : Standing false disk v
+  pub formed : FormedWords (maps v) (state disk v)
   pub there : IsPlace (maps v) (state disk v) place
 
 -- What an address stands for was read at a place into a register, and the call is over.

@@ -282,6 +282,14 @@ NeedsNoRead (Some (Missed search)) = ⊥
 NeedsNoRead (Some (HeadRead search shape)) = ⊥
 NeedsNoRead stage = Unit {0}
 
+-- the stages of the slow path: a load found a word with a tag, or the heap lacks words
+abbrev pub IsSlow : Option Stage → Type 0
+IsSlow None = ⊥
+IsSlow (Some (Polled task)) = ⊥
+IsSlow (Some (Headed address shape access)) = ⊥
+IsSlow (Some (Claimed address shape stored dst)) = ⊥
+IsSlow (Some stage) = Unit {0}
+
 -- the stages of a load that found a home, without those from which the disk is read
 abbrev pub ComesBack : Stage → Type 0
 ComesBack (Searching search) = Unit {0}

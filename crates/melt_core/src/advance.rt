@@ -1,8 +1,11 @@
 //! One event of a call: which it is, by the stage that the call has reached.
+//!
+//! Most calls go from the stop word to the header or the claim, and end there: that is the fast path. A load that finds
+//! a word with a tag, and a call that lacks words, leave it.
 ghost use Rattle.std.specs.Prelude.{◌≡◌, Some};
 ghost use Rattle.melt_record.specs.declared.damage.Damaged.{Damaged};
-ghost use Rattle.melt_core.specs.Advances.{Advances, IsDamage, MayAdvance, Moves, MayMove, Uses};
-ghost use Rattle.melt_core.specs.Stages.{ComesBack, NeedsNoRead};
+ghost use Rattle.melt_core.specs.Advances.{Advances, IsDamage, MayAdvance, MayMove, MayMoveFrom, Moves, MovesFrom, Uses};
+ghost use Rattle.melt_core.specs.Stages.{ComesBack, IsSlow, NeedsNoRead};
 ghost use Rattle.melt_core.specs.Views.{stage_of, view};
 
 use crate::answer::{Refusal, StepResult};
@@ -17,6 +20,8 @@ use melt_word::{Shape, cost};
 
 impl Core {
     /// The event after the stop word was read.
+    // (inlined, so that no result is written to memory)
+    #[inline(always)]
     fn after_poll(&mut self, thread: u32, op: Op, task: Task) -> StepResult
         requires asks { MayMove (view self.old) thread op }
         requires stage { stage_of (view self.old) thread ≡ Some (Stage.Polled task) }
@@ -31,6 +36,7 @@ impl Core {
     }
 
     /// The event after the header of an object was read.
+    // (inlined, so that no result is written to memory)
     #[inline(always)]
     pub(crate) fn after_head(
         &mut self,
@@ -40,9 +46,8 @@ impl Core {
         shape: Shape,
         access: Access,
     ) -> StepResult
-        requires asks { MayMove (view self.old) thread op }
-        requires stage { stage_of (view self.old) thread ≡ Some (Stage.Headed address shape access) }
-        ensures { Moves (view self.old) (view self.new) thread op result }
+        requires { MayMoveFrom (view self.old) thread op (Stage.Headed address shape access) }
+        ensures { MovesFrom (view self.old) (view self.new) thread op (Stage.Headed address shape access) result }
     {
         let object = address;
         match access {
@@ -73,20 +78,15 @@ impl Core {
         }
     }
 
-    /// The event behind a stage that needs nothing of the disk.
-    fn after_stage(&mut self, thread: u32, op: Op, stage: Stage) -> StepResult
+    /// The event of a call that lacks words, or of a load that found a word with a tag, without the disk.
+    fn after_tag(&mut self, thread: u32, op: Op, stage: Stage) -> StepResult
         requires asks { MayMove (view self.old) thread op }
         requires stage { stage_of (view self.old) thread ≡ Some stage }
+        requires slow { IsSlow (Some stage) }
         requires no_read { NeedsNoRead (Some stage) }
         ensures { Moves (view self.old) (view self.new) thread op result }
     {
         match stage {
-            Stage::Polled { task } => self.after_poll(thread, op, task),
-            Stage::Headed {
-                address,
-                shape,
-                access,
-            } => self.after_head(thread, op, address, shape, access),
             Stage::Looked {
                 place,
                 found,
@@ -115,22 +115,40 @@ impl Core {
                 };
                 self.untag(thread, op, looked)
             }
-            Stage::Claimed {
-                address,
-                shape,
-                stored,
-                dst,
-            } => {
-                let claim = Claim {
-                    address,
-                    shape,
-                    stored,
-                    dst,
-                };
-                self.fill(thread, op, claim)
-            }
             Stage::Lacking { need } => self.lack(thread, op, need),
             stage => self.after_search(thread, op, stage),
+        }
+    }
+
+    /// The event of a call on the slow path.
+    // (not inlined, and told no stage, so that the fast path has neither registers nor a stage to save for it)
+    #[inline(never)]
+    fn advance_slowly<R: RecordReader>(
+        &mut self,
+        thread: u32,
+        op: Op,
+        end: u32,
+        reader: &mut R,
+    ) -> StepResult
+        requires may { MayAdvance end (view self.old) thread op }
+        requires slow { IsSlow (stage_of (view self.old) thread) }
+        ensures advances { Advances end (R.image reader.old) (view self.old) (view self.new) thread op result }
+        ensures uses { Uses (view self.old) (view self.new) thread result (R.faults reader.old) (R.faults reader.new)
+            (R.reads reader.old) (R.reads reader.new) }
+        ensures unused { NeedsNoRead (stage_of (view self.old) thread) → reader.new ≡ reader.old }
+        ensures image { R.image reader.new ≡ R.image reader.old }
+        ensures damage { (damaged : Damaged) → result ≡ StepResult.Refused (Refusal.Damaged damaged)
+            → IsDamage (R.image reader.old) end (view self.old) thread damaged }
+    {
+        let Some(call) = &self.rest.calls[thread as usize] else {
+            unreachable!();
+        };
+        match call.stage {
+            Stage::Missed { search } => self.read_head(thread, op, end, search, reader),
+            Stage::HeadRead { search, shape } => {
+                self.read_rest(thread, op, end, search, shape, reader)
+            }
+            stage => self.after_tag(thread, op, stage),
         }
     }
 
@@ -140,6 +158,8 @@ impl Core {
     ///
     /// The disk ends at word `end`, past all homes. The reader is used only where the record of a home is to be read:
     /// at most twice in a call, and once where the object left a Stub there or has no slots and numbers.
+    // (inlined, so that no result is written to memory)
+    #[inline(always)]
     pub fn advance<R: RecordReader>(
         &mut self,
         thread: u32,
@@ -160,11 +180,27 @@ impl Core {
             return self.begin_call(thread, op);
         };
         match call.stage {
-            Stage::Missed { search } => self.read_head(thread, op, end, search, reader),
-            Stage::HeadRead { search, shape } => {
-                self.read_rest(thread, op, end, search, shape, reader)
+            Stage::Polled { task } => self.after_poll(thread, op, task),
+            Stage::Headed {
+                address,
+                shape,
+                access,
+            } => self.after_head(thread, op, address, shape, access),
+            Stage::Claimed {
+                address,
+                shape,
+                stored,
+                dst,
+            } => {
+                let claim = Claim {
+                    address,
+                    shape,
+                    stored,
+                    dst,
+                };
+                self.fill(thread, op, claim)
             }
-            stage => self.after_stage(thread, op, stage),
+            _ => self.advance_slowly(thread, op, end, reader),
         }
     }
 }

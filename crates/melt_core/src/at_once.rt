@@ -1,9 +1,9 @@
 //! A call in one go, for a thread that goes on alone.
 //!
-//! Its events are those of `advance`, one right after the other, and each is made by the same function. What is saved
-//! is the way between them: the stage that a call has reached is known where it was reached. So the words of a new
-//! object are stored without a stage written between any two of them. A call that comes to a stage from which few
-//! calls go on is left there, in flight, for `advance`.
+//! Its events are those of `advance`, one right after the other, and what each reads and writes is the same. What is
+//! saved is the way between them: the stage that a call has reached is known where it was reached, and nobody else
+//! reads it there, so that it is not written. A call that comes to a stage from which few calls go on is left there, in
+//! flight, for `advance`.
 ghost use Rattle.std.specs.Prelude.{◌≡◌, ◌↔◌, ◌<◌, length, IsTrue, Some, None};
 ghost use Rattle.melt_core.specs.Advances.{MayMove, MovesOn};
 ghost use Rattle.melt_core.specs.Stages.{task_of};
@@ -34,13 +34,17 @@ impl Core {
         requires task { task_of op ≡ Some (Task.Use r access) }
         ensures { MovesOn (view self.old) (view self.new) thread op result }
     {
-        match self.poll_object(thread, op, r, access) {
-            StepResult::Going => {}
-            result => return result,
+        let address = self.register(thread, r);
+        if address == 0 {
+            return StepResult::Answered(Reply::Nil);
         }
-        let Some((address, shape)) = self.find_part(thread, op, r, access) else {
+        if self.stop {
+            return self.pause(thread, op, Task::Use { r, access });
+        }
+        let shape = self.heap.space.shape(address);
+        if !access.is_within(shape) {
             return StepResult::Answered(Reply::Range);
-        };
+        }
         self.after_head(thread, op, address, shape, access)
     }
 
@@ -80,10 +84,10 @@ impl Core {
         requires task { task_of op ≡ Some (Task.LoadGlobal dst g) }
         ensures { MovesOn (view self.old) (view self.new) thread op result }
     {
-        match self.poll(thread, op, Task::LoadGlobal { dst, g }) {
-            StepResult::Going => self.look(thread, op, Place::Global { g }, dst),
-            result => result,
+        if self.stop {
+            return self.pause(thread, op, Task::LoadGlobal { dst, g });
         }
+        self.look(thread, op, Place::Global { g }, dst)
     }
 
     /// Stores into a global.
@@ -93,10 +97,10 @@ impl Core {
         requires task { task_of op ≡ Some (Task.StoreGlobal g src) }
         ensures { MovesOn (view self.old) (view self.new) thread op result }
     {
-        match self.poll(thread, op, Task::StoreGlobal { g, src }) {
-            StepResult::Going => self.store(thread, op, Place::Global { g }, src),
-            result => result,
+        if self.stop {
+            return self.pause(thread, op, Task::StoreGlobal { g, src });
         }
+        self.store(thread, op, Place::Global { g }, src)
     }
 
     /// Begins the call of an operation, and makes its events one right after the other: all of them, where the call

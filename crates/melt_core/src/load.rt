@@ -8,14 +8,14 @@
 //! and `body` have those events.
 ghost use Rattle.std.specs.Prelude.{◌≡◌, ◌<◌, length, Some, None, IfSome, IfNone};
 ghost use Rattle.melt_scion.specs.Heaps.{OnDisk};
-ghost use Rattle.melt_core.specs.Advances.{Moves, MayMove};
+ghost use Rattle.melt_core.specs.Advances.{MayMove, MayMoveFrom, Moves, MovesFrom};
 ghost use Rattle.melt_core.specs.Changed.{HasPlace, HasRead, HasRoomForEntry, HoldsRef, IsNamedOrNone, StandsAt};
 ghost use Rattle.melt_core.specs.Known.{word_in};
 ghost use Rattle.melt_core.specs.Stages.{LooksFrom};
 ghost use Rattle.melt_core.specs.Views.{stage_of, state, view};
 
 use crate::answer::StepResult;
-use crate::call::{Access, Place, Search, Stage, Task};
+use crate::call::{Access, Call, Place, Search, Stage, Task};
 use crate::machine::Core;
 use crate::parts::{Cell, Deed, Touched, reference, reply_for};
 use melt_model::{Op, Reply};
@@ -32,57 +32,35 @@ pub(crate) struct Looked {
 }
 
 impl Core {
-    /// Reads the header of the object in a register, and answers its address and its shape, if it has the part that is
-    /// used. Its shape never changes, so that what is known of it stays.
-    // (inlined, since each caller has a part of one kind and needs no code for the others)
-    #[inline(always)]
-    pub(crate) fn find_part(
-        &mut self,
-        thread: u32,
-        op: Op,
-        r: u8,
-        access: Access,
-    ) -> Option<(u32, Shape)>
-        requires asks { MayMove (view self.old) thread op }
-        requires stage { stage_of (view self.old) thread ≡ Some (Stage.Polled (Task.Use r access)) }
-        ensures there { IfSome result (λ part. Moves (view self.old) (view self.new) thread op StepResult.Going
-            × (stage_of (view self.new) thread ≡ Some (Stage.Headed part.0 part.1 access))) }
-        ensures range { IfNone result
-            (Moves (view self.old) (view self.new) thread op (StepResult.Answered Reply.Range)) }
-    {
-        let address = self.register(thread, r);
-        let shape = self.heap.space.shape(address);
-        if access.is_within(shape) {
-            let stage = Stage::Headed {
-                address,
-                shape,
-                access,
-            };
-            self.set_stage(thread, op, stage);
-            return Some((address, shape));
-        }
-        self.set_call(thread, None);
-        None
-    }
-
     /// The event of a call that reads the header of the object in a register.
+    // (inlined, so that no result is written to memory)
+    #[inline(always)]
     pub(crate) fn head(&mut self, thread: u32, op: Op, r: u8, access: Access) -> StepResult
         requires asks { MayMove (view self.old) thread op }
         requires stage { stage_of (view self.old) thread ≡ Some (Stage.Polled (Task.Use r access)) }
         ensures { Moves (view self.old) (view self.new) thread op result }
     {
-        match self.find_part(thread, op, r, access) {
-            Some(_) => StepResult::Going,
-            None => StepResult::Answered(Reply::Range),
+        let address = self.register(thread, r);
+        let shape = self.heap.space.shape(address);
+        if !access.is_within(shape) {
+            self.set_call(thread, None);
+            return StepResult::Answered(Reply::Range);
         }
+        let stage = Stage::Headed {
+            address,
+            shape,
+            access,
+        };
+        self.set_stage(thread, op, stage);
+        StepResult::Going
     }
 
     /// Reads a number word of an object.
     pub(crate) fn get(&mut self, thread: u32, op: Op, cell: Cell) -> StepResult
-        requires asks { MayMove (view self.old) thread op }
-        requires stage { stage_of (view self.old) thread
-            ≡ Some (Stage.Headed cell.address cell.shape (Access.Get cell.j)) }
-        ensures { Moves (view self.old) (view self.new) thread op result }
+        requires { MayMoveFrom (view self.old) thread op
+            (Stage.Headed cell.address cell.shape (Access.Get cell.j)) }
+        ensures { MovesFrom (view self.old) (view self.new) thread op
+            (Stage.Headed cell.address cell.shape (Access.Get cell.j)) result }
     {
         let Cell { address, shape, j } = cell;
         let at = address + 2 + u32::from(shape.refs) + u32::from(j);
@@ -131,9 +109,10 @@ impl Core {
     // (inlined, since each caller has a place of one kind and needs no code for the other)
     #[inline(always)]
     pub(crate) fn look(&mut self, thread: u32, op: Op, place: Place, dst: u8) -> StepResult
-        requires asks { MayMove (view self.old) thread op }
-        requires stage { LooksFrom (stage_of (view self.old) thread) place dst }
-        ensures { Moves (view self.old) (view self.new) thread op result }
+        requires { (stage : Stage) × LooksFrom (Some stage) place dst
+            × MayMoveFrom (view self.old) thread op stage }
+        ensures { (stage : Stage) → LooksFrom (Some stage) place dst → MayMoveFrom (view self.old) thread op stage
+            → MovesFrom (view self.old) (view self.new) thread op stage result }
     {
         match self.reference_in(place) {
             Ref::Null => self.read(thread, place, dst, 0),
@@ -146,7 +125,7 @@ impl Core {
                     target,
                     dst,
                 };
-                self.set_stage(thread, op, stage);
+                self.set_call(thread, Some(Call { op, stage }));
                 StepResult::Going
             }
             Ref::Disk(home) => {
@@ -156,7 +135,8 @@ impl Core {
                     tried: 0,
                     dst,
                 };
-                self.set_stage(thread, op, Stage::Searching { search });
+                let stage = Stage::Searching { search };
+                self.set_call(thread, Some(Call { op, stage }));
                 StepResult::Going
             }
         }

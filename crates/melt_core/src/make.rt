@@ -74,6 +74,8 @@ impl Core {
     }
 
     /// The event of a call that claims the words for an object.
+    // (inlined, so that no result is written to memory)
+    #[inline(always)]
     pub(crate) fn claim(&mut self, thread: u32, op: Op, shape: Shape, dst: u8) -> StepResult
         requires asks { MayMove (view self.old) thread op }
         requires stage { stage_of (view self.old) thread ≡ Some (Stage.Polled (Task.Make dst shape)) }
@@ -110,6 +112,8 @@ impl Core {
     }
 
     /// Stores the header: the words are an object now, which has the next number.
+    // (inlined, so that no result is written to memory)
+    #[inline(always)]
     pub(crate) fn publish(&mut self, thread: u32, op: Op, claim: Claim) -> StepResult
         requires asks { MayMove (view self.old) thread op }
         requires stage { stage_of (view self.old) thread
@@ -139,6 +143,8 @@ impl Core {
     }
 
     /// Stores the next word of the region of a call, the header last.
+    // (inlined, so that no result is written to memory)
+    #[inline(always)]
     pub(crate) fn fill(&mut self, thread: u32, op: Op, claim: Claim) -> StepResult
         requires asks { MayMove (view self.old) thread op }
         requires stage { stage_of (view self.old) thread

@@ -2,7 +2,7 @@
 //!
 //! Only a call that has read the stop word unset goes on, and none reads it twice. So a safepoint waits for each thread
 //! for at most as many events as one call has, and a thread that meets the stop word has changed nothing.
-ghost use Rattle.std.specs.Prelude.{◌≡◌, Some, None};
+ghost use Rattle.std.specs.Prelude.{◌≡◌, Some, None, true};
 ghost use Rattle.melt_scion.specs.Heaps.{register_in};
 ghost use Rattle.melt_core.specs.Advances.{Moves, MayMove};
 ghost use Rattle.melt_core.specs.Stages.{Shares, task_of};
@@ -15,6 +15,17 @@ use melt_model::{Op, Reply};
 use melt_word::Shape;
 
 impl Core {
+    /// The stop word is set: the call pauses.
+    pub(crate) fn pause(&self, thread: u32, op: Op, task: Task) -> StepResult
+        requires asks { MayMove (view self.now) thread op }
+        requires first { call_of (view self.now) thread ≡ None }
+        requires shares { Shares (register_in (view self.now).held thread) op task }
+        requires stop { (view self.now).stop ≡ true }
+        ensures { Moves (view self.now) (view self.now) thread op result }
+    {
+        StepResult::Refused(Refusal::Pause(Pause::Asked))
+    }
+
     /// Reads the stop word.
     #[inline(always)]
     pub(crate) fn poll(&mut self, thread: u32, op: Op, task: Task) -> StepResult
@@ -24,7 +35,7 @@ impl Core {
         ensures { Moves (view self.old) (view self.new) thread op result }
     {
         if self.stop {
-            return StepResult::Refused(Refusal::Pause(Pause::Asked));
+            return self.pause(thread, op, task);
         }
         let stage = Stage::Polled { task };
         self.set_call(thread, Some(Call { op, stage }));
@@ -81,6 +92,8 @@ impl Core {
     }
 
     /// The first event of a call.
+    // (inlined, so that no result is written to memory)
+    #[inline(always)]
     pub(crate) fn begin_call(&mut self, thread: u32, op: Op) -> StepResult
         requires asks { MayMove (view self.old) thread op }
         requires first { call_of (view self.old) thread ≡ None }

@@ -3,9 +3,9 @@
 //! A register never holds an object with the stale bit, so that what is written needs no tag. The entry of the history
 //! and the word are written in one event: no other thread can come between.
 ghost use Rattle.std.specs.Prelude.{◌≡◌, Some};
-ghost use Rattle.melt_core.specs.Advances.{Moves, MayMove};
+ghost use Rattle.melt_core.specs.Advances.{MayMoveFrom, MovesFrom};
 ghost use Rattle.melt_core.specs.Stages.{StoresFrom};
-ghost use Rattle.melt_core.specs.Views.{stage_of, view};
+ghost use Rattle.melt_core.specs.Views.{view};
 
 use crate::answer::StepResult;
 use crate::call::{Access, Place, Stage};
@@ -19,9 +19,10 @@ impl Core {
     // (inlined for the same reason as `look`)
     #[inline(always)]
     pub(crate) fn store(&mut self, thread: u32, op: Op, place: Place, src: u8) -> StepResult
-        requires asks { MayMove (view self.old) thread op }
-        requires stage { StoresFrom (stage_of (view self.old) thread) place src }
-        ensures { Moves (view self.old) (view self.new) thread op result }
+        requires { (stage : Stage) × StoresFrom (Some stage) place src
+            × MayMoveFrom (view self.old) thread op stage }
+        ensures { (stage : Stage) → StoresFrom (Some stage) place src → MayMoveFrom (view self.old) thread op stage
+            → MovesFrom (view self.old) (view self.new) thread op stage result }
     {
         let address = self.register(thread, src);
         self.set_word_in(place, held_word(address));
@@ -33,10 +34,10 @@ impl Core {
 
     /// Writes a number word of an object.
     pub(crate) fn put(&mut self, thread: u32, op: Op, cell: Cell, number: u64) -> StepResult
-        requires asks { MayMove (view self.old) thread op }
-        requires stage { stage_of (view self.old) thread
-            ≡ Some (Stage.Headed cell.address cell.shape (Access.Put cell.j number)) }
-        ensures { Moves (view self.old) (view self.new) thread op result }
+        requires { MayMoveFrom (view self.old) thread op
+            (Stage.Headed cell.address cell.shape (Access.Put cell.j number)) }
+        ensures { MovesFrom (view self.old) (view self.new) thread op
+            (Stage.Headed cell.address cell.shape (Access.Put cell.j number)) result }
     {
         let Cell { address, shape, j } = cell;
         let at = address + 2 + u32::from(shape.refs) + u32::from(j);

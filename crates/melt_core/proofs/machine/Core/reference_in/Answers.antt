@@ -6,7 +6,7 @@ use Rattle.melt_core.proofs.machine.Core.reference_in.Goals as goal
 pub reference-requires : goal.reference-requires
 reference-requires c =
     let disk = c.requires.disk in
-    let word = place_word disk (view c.args.self.now) c.args.place c.requires.stands c.requires.there in
+    let word = place_word disk (view c.args.self.now) c.args.place c.requires.formed c.requires.there in
     (word.reference, record { in_range = word.in_range; is = c.word_in.ensures disk ∙ word.is })
 
 pub returns : goal.returns

@@ -1,48 +1,47 @@
--- The events are those of `poll_object` and `find_part`, and then the one on the part.
-use Rattle.std.specs.Prelude.{◌≡◌, Some}
+-- The events are those of `poll_object` and `head`, which write nothing here, and then the one on the part.
+use Rattle.std.proofs.Common.{rules, sym, ◌∙◌}
+use Rattle.melt_core.specs.Changed.{with_stage}
+use Rattle.melt_core.specs.Views.{View, view}
 use Rattle.melt_core.specs.declared.call.Stage.TheVariants.{Polled}
 use Rattle.melt_core.specs.declared.call.Task.TheVariants.{Use}
-use Rattle.melt_core.specs.Views.{stage_of, view}
-use Rattle.melt_core.proofs.AtOnce.{GoesOn, first_on, headed_well, last_on, next_on, polled, polled_well}
+use Rattle.melt_core.specs.declared.answer.StepResult.TheVariants.{Answered}
+use Rattle.melt_model.specs.declared.operations.Reply.TheVariants as reply
+use Rattle.melt_core.proofs.Answered.{nil_advances}
+use Rattle.melt_core.proofs.Asked.{asks_over}
+use Rattle.melt_core.proofs.AtOnce.{GoesOn, headed_well, heads, last_from, one_event, polls, ranges}
 use Rattle.melt_core.proofs.machine.Core.use_at_once.Goals as goal
-use Rattle.melt_core.proofs.machine.Core.use_at_once.Goals.{In-Going}
+use Rattle.melt_core.proofs.machine.Core.use_at_once.Goals.{Else-self}
+
+pub returns-then-address-eq0 : goal.returns-then-address-eq0
+returns-then-address-eq0 c =
+    let v : View = view c.args.self.now in
+    one_event v v c.args.thread c.args.op (Answered reply.Nil) (record {
+      over = λ disk stands.
+          nil_advances disk v c.args.thread c.args.op c.args.r c.args.access
+          (asks_over v c.args.thread c.args.op c.requires.asks disk stands) c.requires.first c.requires.task
+          (sym c.register-address.ensures ∙ c.if-address-eq0.true);
+    })
 
 -- behind the first event
-polls : (c : In-Going) → GoesOn (view c.args.self.now) (view c.poll_object.new.self) c.args.thread c.args.op
-polls c =
-    first_on (view c.args.self.now) (view c.poll_object.new.self) c.args.thread c.args.op c.requires.asks
-    c.in-Going.ensures
+polled : (c : Else-self) → GoesOn (view c.args.self.now)
+    (with_stage (view c.args.self.now) c.args.thread c.args.op (Polled (Use c.args.r c.args.access))) c.args.thread c.args.op
+polled c =
+    polls (Use c.args.r c.args.access) c.requires.asks c.requires.first
+    (c.requires.task, λ none. c.if-address-eq0.false (c.register-address.ensures ∙ none)) (search rules)
 
--- which has read the stop word
-stands : (c : In-Going) → stage_of (view c.poll_object.new.self) c.args.thread
-    ≡ Some (Polled (Use c.args.r c.args.access))
-stands c =
-    polled (view c.args.self.now) (view c.poll_object.new.self) c.args.thread c.args.op (Use c.args.r c.args.access)
-    c.requires.asks c.requires.first c.requires.task c.in-Going.ensures
+pub returns-then-not-is_within : goal.returns-then-not-is_within
+returns-then-not-is_within c =
+    ranges c.args.r c.args.access c.shape-shape.result (polled (goal.at.returns-then-not-is_within c).Else-self)
+    c.requires.first c.register-address.ensures c.shape-shape.ensures
+    (λ part. let within = c.is_within.ensures.1 part in cc)
 
-pub find_part-requires-clause-asks : goal.find_part-requires-clause-asks
-find_part-requires-clause-asks c = (polls (goal.at.find_part-requires-clause-asks c).In-Going).may
-
-pub find_part-requires-clause-stage : goal.find_part-requires-clause-stage
-find_part-requires-clause-stage c = stands (goal.at.find_part-requires-clause-stage c).In-Going
-
-pub returns-in_default-find_part : goal.returns-in_default-find_part
-returns-in_default-find_part c =
-    let at = goal.at.returns-in_default-find_part c in
-    last_on (polls at.In-Going) (stands at.In-Going) (polled_well (Use c.args.r c.args.access))
-    c.in_default-find_part.ensures.range
-
-pub after_head-requires-clause-asks : goal.after_head-requires-clause-asks
-after_head-requires-clause-asks c =
-    let at = goal.at.after_head-requires-clause-asks c in
-    (next_on (view c.args.self.now) (view c.poll_object.new.self) (view c.find_part.new.self) c.args.thread c.args.op
-    (polls at.In-Going) c.in-Some.ensures.there.0).may
+pub after_head-requires : goal.after_head-requires
+after_head-requires c =
+    (heads c.args.r c.args.access c.shape-shape.result (polled (goal.at.after_head-requires c).Else-self)
+    c.register-address.ensures c.shape-shape.ensures (c.is_within.ensures.0 (cc))).may
 
 pub returns : goal.returns
 returns c =
-    let at = goal.at.returns c in
-    let found : GoesOn (view c.args.self.now) (view c.find_part.new.self) c.args.thread c.args.op =
-    next_on (view c.args.self.now) (view c.poll_object.new.self) (view c.find_part.new.self) c.args.thread c.args.op
-    (polls at.In-Going) c.in-Some.ensures.there.0 in
-    last_on found c.in-Some.ensures.there.1 (headed_well c.in-Some.address c.in-Some.shape c.args.access)
-    c.after_head.ensures
+    last_from (heads c.args.r c.args.access c.shape-shape.result (polled (goal.at.returns c).Else-self)
+    c.register-address.ensures c.shape-shape.ensures (c.is_within.ensures.0 (cc)))
+    (headed_well c.register-address.result c.shape-shape.result c.args.access) c.after_head.ensures
