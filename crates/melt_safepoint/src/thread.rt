@@ -81,10 +81,12 @@ impl<'a> ThreadState<'a> {
         ensures runs { IsSome self.old.op → self.new.mode ≡ Mode.Running }
         ensures ended { self.old.op ≡ None → self.new.mode ≡ Mode.Ended ThreadEnd.Done }
     {
-        self.mode = match self.op {
-            Some(_) => Mode::Running,
-            None => Mode::Ended(ThreadEnd::Done),
-        };
+        match (self.op, self.mode) {
+            (None, _) => self.mode = Mode::Ended(ThreadEnd::Done),
+            // Most threads run already, and a mode is four words.
+            (Some(_), Mode::Running) => {}
+            (Some(_), _) => self.mode = Mode::Running,
+        }
     }
 
     /// Makes its call again, if that was refused.

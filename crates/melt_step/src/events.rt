@@ -100,7 +100,8 @@ fn next_call(core: &Core, state: &ThreadState<'_>, thread: u32, alone: bool) -> 
     ensures { IfSome result (λ op. IsNextCall (view core.now) thread state.now op) }
 {
     match (state.mode, state.op) {
-        (Mode::Running, Some(op)) if alone && op != Op::Collect && core.is_free(thread) => Some(op),
+        (Mode::Running, Some(Op::Collect)) => None,
+        (Mode::Running, Some(op)) if alone && core.is_free(thread) => Some(op),
         _ => None,
     }
 }
