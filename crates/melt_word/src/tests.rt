@@ -17,7 +17,7 @@ fn words_of_references(rt: HostRuntime) {
         assert_eq!(rt; decode_ref(word), found, "at {word}");
     }
     assert_eq!(rt; reference_of(0), Ref::Null);
-    assert_eq!(rt; reference_of(4_294_967_292), Ref::Clean(MAX_ADDRESS));
+    assert_eq!(rt; reference_of(4), Ref::Clean(1));
     assert_eq!(rt; reference_of(5), Ref::Stale(1));
     assert_eq!(rt; reference_of(17_179_869_183), Ref::Disk(u32::MAX));
 }
@@ -39,8 +39,10 @@ fn words_of_headers(rt: HostRuntime) {
         assert_eq!(rt; decode_header(word), Ok(header));
         assert_eq!(rt; shape_of(word), shape);
     }
-    let largest = Shape { refs: 62, nums: 62 };
-    assert_eq!(rt; shape_of(4_079_107), largest);
+    let shape = Shape { refs: 62, nums: 62 };
+    let largest = encode_header(Header { shape, stale: true });
+    assert_eq!(rt; largest, 4_079_107);
+    assert_eq!(rt; shape_of(largest), shape);
 }
 
 #[test]
