@@ -56,6 +56,8 @@ impl Core {
     }
 
     /// Reads a number word of an object.
+    // (inlined, so that no result is written to memory)
+    #[inline(always)]
     pub(crate) fn get(&mut self, thread: u32, op: Op, cell: Cell) -> StepResult
         requires { MayMoveFrom (view self.old) thread op
             (Stage.Headed cell.address cell.shape (Access.Get cell.j)) }

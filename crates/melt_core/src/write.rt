@@ -33,6 +33,8 @@ impl Core {
     }
 
     /// Writes a number word of an object.
+    // (inlined, so that no result is written to memory)
+    #[inline(always)]
     pub(crate) fn put(&mut self, thread: u32, op: Op, cell: Cell, number: u64) -> StepResult
         requires { MayMoveFrom (view self.old) thread op
             (Stage.Headed cell.address cell.shape (Access.Put cell.j number)) }
