@@ -30,8 +30,8 @@ use Rattle.melt_core.proofs.Making.{claimed_known, store_zero_advances}
 use Rattle.melt_core.proofs.Going.{poll_advances}
 use Rattle.melt_core.proofs.Reading.{head_advances, head_object, range_advances}
 use Rattle.melt_core.proofs.Staged.{call_again, set_found, set_twice, staged_stage}
-use Rattle.melt_core.specs.Advances.{AdvancesOver, Asks, Continues, Goes, InBounds, MayMove, Moves, MovesBy, MovesFrom, MovesOn}
-use Rattle.melt_core.specs.Advances.{Refuses}
+use Rattle.melt_core.specs.Advances.{AdvancesOver, Asks, Continues, Goes, InBounds, MayMove, MayMoveFrom, Moves, MovesBy}
+use Rattle.melt_core.specs.Advances.{MovesFrom, MovesOn, Refuses}
 use Rattle.melt_core.specs.Stages.{HasPart, Lacks, Next, ReadsAt, SearchesOn, Shares, task_of}
 use Rattle.melt_core.specs.Views.{View, call_of, maps, stage_in, stage_of, state}
 
@@ -246,3 +246,11 @@ call_within v t call is = elim (cases_lt t (length v.calls)) [
   | inl below ↦ below
   | inr past ↦ absurd (let none : None ≡ Some call = sym (get_or_past v.calls t None past) ∙ is in cc)
 ]
+
+-- the last event, of a call that found the object in its register
+pub uses : {v w : View} {t : ℕ} {o : Op} {result : StepResult} (found : ℕ × Shape) (access : Access)
+    → MovesOn v (with_stage v t o (Headed found.0 found.1 access)) t o Going
+    → MayMoveFrom v t o (Headed found.0 found.1 access)
+    → MovesFrom v w t o (Headed found.0 found.1 access) result → MovesOn v w t o result
+uses found access on may moves =
+    last_from (record { on = on; may = may }) (headed_well found.0 found.1 access) moves

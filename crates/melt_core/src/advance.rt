@@ -38,7 +38,7 @@ impl Core {
     /// The event after the header of an object was read.
     // (inlined, so that no result is written to memory)
     #[inline(always)]
-    pub(crate) fn after_head(
+    fn after_head(
         &mut self,
         thread: u32,
         op: Op,

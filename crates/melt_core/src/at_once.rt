@@ -4,15 +4,17 @@
 //! saved is the way between them: the stage that a call has reached is known where it was reached, and nobody else
 //! reads it there, so that it is not written. A call that comes to a stage from which few calls go on is left there, in
 //! flight, for `advance`.
-ghost use Rattle.std.specs.Prelude.{◌≡◌, ◌↔◌, ◌<◌, length, IsTrue, Some, None};
-ghost use Rattle.melt_core.specs.Advances.{MayMove, MovesOn};
+ghost use Rattle.std.specs.Prelude.{◌≡◌, ◌↔◌, ◌<◌, length, IsTrue, IfErr, IfOk, Some, None};
+ghost use Rattle.melt_core.specs.Advances.{MayMove, MayMoveFrom, MovesOn};
+ghost use Rattle.melt_core.specs.Changed.{with_stage};
 ghost use Rattle.melt_core.specs.Stages.{task_of};
 ghost use Rattle.melt_core.specs.Views.{call_of, stage_of, view};
 
 use crate::answer::StepResult;
-use crate::call::{Access, Place, Task};
+use crate::call::{Access, Place, Stage, Task};
 use crate::machine::Core;
 use crate::make::Claim;
+use crate::parts::Cell;
 use melt_model::{Op, Reply};
 use melt_word::{Shape, cost};
 
@@ -25,27 +27,95 @@ impl Core {
         self.rest.calls[thread as usize].is_none()
     }
 
-    /// Uses a part of the object in a register.
+    /// Finds the object in a register for a call that uses a part of it, and its shape; or answers that call, where there
+    /// is none, or none with this part, or the stop word is set.
     // (inlined, since each caller has a part of one kind and needs no code for the others)
     #[inline(always)]
-    fn use_at_once(&mut self, thread: u32, op: Op, r: u8, access: Access) -> StepResult
-        requires asks { MayMove (view self.old) thread op }
-        requires first { call_of (view self.old) thread ≡ None }
+    fn object_at_once(
+        &self,
+        thread: u32,
+        op: Op,
+        r: u8,
+        access: Access,
+    ) -> Result<(u32, Shape), StepResult>
+        requires asks { MayMove (view self.now) thread op }
+        requires first { call_of (view self.now) thread ≡ None }
         requires task { task_of op ≡ Some (Task.Use r access) }
-        ensures { MovesOn (view self.old) (view self.new) thread op result }
+        ensures goes { IfOk result (λ found. MovesOn (view self.now)
+            (with_stage (view self.now) thread op (Stage.Headed found.0 found.1 access)) thread op StepResult.Going) }
+        ensures may { IfOk result
+            (λ found. MayMoveFrom (view self.now) thread op (Stage.Headed found.0 found.1 access)) }
+        ensures answers { IfErr result (λ answer. MovesOn (view self.now) (view self.now) thread op answer) }
     {
         let address = self.register(thread, r);
         if address == 0 {
-            return StepResult::Answered(Reply::Nil);
+            return Err(StepResult::Answered(Reply::Nil));
         }
         if self.stop {
-            return self.pause(thread, op, Task::Use { r, access });
+            return Err(self.pause(thread, op, Task::Use { r, access }));
         }
         let shape = self.heap.space.shape(address);
-        if !access.is_within(shape) {
-            return StepResult::Answered(Reply::Range);
+        if access.is_within(shape) {
+            Ok((address, shape))
+        } else {
+            Err(StepResult::Answered(Reply::Range))
         }
-        self.after_head(thread, op, address, shape, access)
+    }
+
+    /// Loads a slot of the object in a register.
+    #[inline(always)]
+    fn load_at_once(&mut self, thread: u32, op: Op, src: u8, dst: u8, i: u8) -> StepResult
+        requires asks { MayMove (view self.old) thread op }
+        requires first { call_of (view self.old) thread ≡ None }
+        requires task { task_of op ≡ Some (Task.Use src (Access.Load dst i)) }
+        ensures { MovesOn (view self.old) (view self.new) thread op result }
+    {
+        match self.object_at_once(thread, op, src, Access::Load { dst, i }) {
+            Ok((object, _)) => self.look(thread, op, Place::Field { object, i }, dst),
+            Err(answer) => answer,
+        }
+    }
+
+    /// Stores into a slot of the object in a register.
+    #[inline(always)]
+    fn store_at_once(&mut self, thread: u32, op: Op, obj: u8, i: u8, src: u8) -> StepResult
+        requires asks { MayMove (view self.old) thread op }
+        requires first { call_of (view self.old) thread ≡ None }
+        requires task { task_of op ≡ Some (Task.Use obj (Access.Store i src)) }
+        ensures { MovesOn (view self.old) (view self.new) thread op result }
+    {
+        match self.object_at_once(thread, op, obj, Access::Store { i, src }) {
+            Ok((object, _)) => self.store(thread, op, Place::Field { object, i }, src),
+            Err(answer) => answer,
+        }
+    }
+
+    /// Reads a number word of the object in a register.
+    #[inline(always)]
+    fn get_at_once(&mut self, thread: u32, op: Op, src: u8, j: u8) -> StepResult
+        requires asks { MayMove (view self.old) thread op }
+        requires first { call_of (view self.old) thread ≡ None }
+        requires task { task_of op ≡ Some (Task.Use src (Access.Get j)) }
+        ensures { MovesOn (view self.old) (view self.new) thread op result }
+    {
+        match self.object_at_once(thread, op, src, Access::Get { j }) {
+            Ok((address, shape)) => self.get(thread, op, Cell { address, shape, j }),
+            Err(answer) => answer,
+        }
+    }
+
+    /// Writes a number word of the object in a register.
+    #[inline(always)]
+    fn put_at_once(&mut self, thread: u32, op: Op, obj: u8, j: u8, v: u64) -> StepResult
+        requires asks { MayMove (view self.old) thread op }
+        requires first { call_of (view self.old) thread ≡ None }
+        requires task { task_of op ≡ Some (Task.Use obj (Access.Put j v)) }
+        ensures { MovesOn (view self.old) (view self.new) thread op result }
+    {
+        match self.object_at_once(thread, op, obj, Access::Put { j, v }) {
+            Ok((address, shape)) => self.put(thread, op, Cell { address, shape, j }, v),
+            Err(answer) => answer,
+        }
     }
 
     /// Makes an object, if its words do not end past the last word of the heap.
@@ -119,12 +189,10 @@ impl Core {
                 let shape = Shape { refs, nums };
                 self.make_at_once(thread, op, shape, dst)
             }
-            Op::Load { dst, src, i } => self.use_at_once(thread, op, src, Access::Load { dst, i }),
-            Op::Store { obj, i, src } => {
-                self.use_at_once(thread, op, obj, Access::Store { i, src })
-            }
-            Op::Get { src, j } => self.use_at_once(thread, op, src, Access::Get { j }),
-            Op::Put { obj, j, v } => self.use_at_once(thread, op, obj, Access::Put { j, v }),
+            Op::Load { dst, src, i } => self.load_at_once(thread, op, src, dst, i),
+            Op::Store { obj, i, src } => self.store_at_once(thread, op, obj, i, src),
+            Op::Get { src, j } => self.get_at_once(thread, op, src, j),
+            Op::Put { obj, j, v } => self.put_at_once(thread, op, obj, j, v),
             Op::GLoad { dst, g } => self.load_global_at_once(thread, op, dst, g),
             Op::GStore { g, src } => self.store_global_at_once(thread, op, g, src),
             Op::Same { a, b } => self.same(thread, a, b),
