@@ -22,7 +22,7 @@ ghost use Rattle.melt_step.specs.Turns.{GoesAt};
 
 use crate::alone::call_alone;
 use crate::collector::left_of;
-use crate::events::make_events;
+use crate::events::{make_event, make_events};
 use crate::machine::Ordered;
 use melt_core::Core;
 use melt_io::RecordReader;
@@ -90,14 +90,12 @@ pub fn give_up<'a, const STORED: usize>(run: Run<'a, Ordered<'a, STORED>>) -> En
     )
 }
 
-/// Makes the next event of a thread that can go on; or, where it goes on alone, its next call as far as that is made in
-/// one go. The homes on disk end before `end`.
-// (inlined, since one caller has threads that go on alone and the other has none)
+/// Makes the next event of a thread that can go on. The homes on disk end before `end`.
+// (inlined for the same reason as `make_event`)
 #[inline(always)]
 fn make_turn<R: RecordReader, const STORED: usize>(
     run: &mut Run<'_, Ordered<'_, STORED>>,
     thread: u32,
-    alone: bool,
     end: u32,
     reader: &mut R,
 )
@@ -117,15 +115,7 @@ fn make_turn<R: RecordReader, const STORED: usize>(
     ensures stored { stores (view run.new.machine.core) ≡ stores (view run.old.machine.core) }
 {
     let state = &mut run.states[thread as usize];
-    make_events(
-        &mut run.machine.core,
-        state,
-        thread,
-        alone,
-        run.every,
-        end,
-        reader,
-    );
+    make_event(&mut run.machine.core, state, thread, run.every, end, reader);
 }
 
 /// Makes the next event of the thread whose turn it is, and answers which one that is, if one can go on. The homes on
@@ -153,11 +143,12 @@ pub fn take_turn<R: RecordReader, const STORED: usize>(
 {
     let machine = &mut run.machine;
     let thread = machine.turns.next(machine.trace, &run.states)?;
-    make_turn(run, thread, false, end, reader);
+    make_turn(run, thread, end, reader);
     Some(thread)
 }
 
 /// Gives all events to a thread, until it cannot go on. No other is to be able to.
+// (core and state are taken out of the run once, and not again before each event)
 fn give_all<R: RecordReader, const STORED: usize>(
     run: &mut Run<'_, Ordered<'_, STORED>>,
     thread: u32,
@@ -179,8 +170,11 @@ fn give_all<R: RecordReader, const STORED: usize>(
     ensures collector { run.new.collector ≡ run.old.collector }
     ensures stored { stores (view run.new.machine.core) ≡ stores (view run.old.machine.core) }
 {
-    while run.states[thread as usize].can_go() {
-        make_turn(run, thread, true, end, reader);
+    let every = run.every;
+    let core = &mut run.machine.core;
+    let state = &mut run.states[thread as usize];
+    while state.can_go() {
+        make_events(core, state, thread, every, end, reader);
     }
 }
 

@@ -18,10 +18,10 @@ use melt_io::RecordReader;
 use melt_model::{Op, Reply};
 use melt_safepoint::{Mode, ThreadState, mode_after};
 
-/// Makes the next event of a thread that can go on.
-// (inlined for the same reason as `make_turn`)
+/// Makes the next event of a thread that can go on, over a disk whose homes end before `end`.
+// (inlined, so that what the core answers is not written to memory)
 #[inline(always)]
-fn make_event<R: RecordReader>(
+pub fn make_event<R: RecordReader>(
     core: &mut Core,
     state: &mut ThreadState<'_>,
     thread: u32,
@@ -55,6 +55,29 @@ fn make_event<R: RecordReader>(
     }
 }
 
+/// The same, apart.
+// (not inlined, as few events of a thread that goes on alone are made by it, and with it the others would not be inlined)
+#[inline(never)]
+fn make_event_apart<R: RecordReader>(
+    core: &mut Core,
+    state: &mut ThreadState<'_>,
+    thread: u32,
+    every: u32,
+    end: u32,
+    reader: &mut R,
+)
+    requires ready { IsReady end (view core.old) thread state.old }
+    requires goes { MayGo state.old.mode }
+    ensures step { TakesTurn end (R.image reader.old) (view core.old) (view core.new) thread state.old state.new }
+    ensures stop { SetsStop (view core.old) (view core.new) state.new }
+    ensures due { DueBy every state.old state.new }
+    ensures image { R.image reader.new ≡ R.image reader.old }
+    ensures makes { MakesInUse end (R.image reader.old) (view core.old) (view core.new) }
+    ensures lost { CountsLoss state.old state.new (R.faults reader.old) (R.faults reader.new) }
+{
+    make_event(core, state, thread, every, end, reader);
+}
+
 /// A thread that has ended drops its registers.
 pub fn drop_if_ended(core: &mut Core, mode: Mode, thread: u32)
     requires thread { thread < length (view core.old).held }
@@ -67,7 +90,7 @@ pub fn drop_if_ended(core: &mut Core, mode: Mode, thread: u32)
 }
 
 /// A thread got a reply.
-// (inlined for the same reason as `make_turn`)
+// (inlined for the same reason as `make_event`)
 #[inline(always)]
 pub fn answered(core: &mut Core, state: &mut ThreadState<'_>, thread: u32, reply: Reply, every: u32)
     requires thread { thread < length (view core.old).held }
@@ -95,26 +118,25 @@ pub fn refused(core: &mut Core, state: &mut ThreadState<'_>, thread: u32, refusa
 /// The operation whose call a thread that goes on alone is to begin, if that is next.
 // (inlined, as it is asked before each event)
 #[inline(always)]
-fn next_call(core: &Core, state: &ThreadState<'_>, thread: u32, alone: bool) -> Option<Op>
+fn next_call(core: &Core, state: &ThreadState<'_>, thread: u32) -> Option<Op>
     requires { thread < length (view core.now).calls }
     ensures { IfSome result (λ op. IsNextCall (view core.now) thread state.now op) }
 {
     match (state.mode, state.op) {
         (Mode::Running, Some(Op::Collect)) => None,
-        (Mode::Running, Some(op)) if alone && core.is_free(thread) => Some(op),
+        (Mode::Running, Some(op)) if core.is_free(thread) => Some(op),
         _ => None,
     }
 }
 
-/// Makes the next event of a thread that can go on, over a disk whose homes end before `end`; or, where it goes on
-/// alone and begins a call, the events of that in one go, as far as that is quick.
-// (inlined for the same reason as `make_turn`)
+/// Makes the next event of a thread that can go on, and goes on alone, over a disk whose homes end before `end`; or,
+/// where it begins a call, the events of that in one go, as far as that is quick.
+// (inlined for the same reason as `make_event`)
 #[inline(always)]
 pub fn make_events<R: RecordReader>(
     core: &mut Core,
     state: &mut ThreadState<'_>,
     thread: u32,
-    alone: bool,
     every: u32,
     end: u32,
     reader: &mut R,
@@ -128,8 +150,8 @@ pub fn make_events<R: RecordReader>(
     ensures makes { MakesInUse end (R.image reader.old) (view core.old) (view core.new) }
     ensures lost { CountsLoss state.old state.new (R.faults reader.old) (R.faults reader.new) }
 {
-    let Some(op) = next_call(core, state, thread, alone) else {
-        make_event(core, state, thread, every, end, reader);
+    let Some(op) = next_call(core, state, thread) else {
+        make_event_apart(core, state, thread, every, end, reader);
         return;
     };
     match core.call_at_once(thread, op) {

@@ -34,9 +34,9 @@ index_mut-state-requires g c =
     slice_get_within c.args.run.now.states.items c.args.thread c.requires.goes.0 c.requires.goes.1 in
     omega (arith, within, c.args.run.now.states.ok)
 
-pub make_events-requires : goal.make_events-requires
-make_events-requires g c =
-    let at = goal.at.make_events-requires g c in
+pub make_event-requires : goal.make_event-requires
+make_event-requires g c =
+    let at = goal.at.make_event-requires g c in
     let borrowed = here g at.After-index_mut-state c.requires.goes in
     let stands = c.requires.stands in
     record {
@@ -51,24 +51,24 @@ returns g c =
     let at = goal.at.returns g c in
     let borrowed = here g at.After-index_mut-state c.requires.goes in
     let s : ThreadState = c.index_mut-state.result.now in
-    let after : ThreadState = c.make_events.new.state in
+    let after : ThreadState = c.make_event.new.state in
     let states : List ThreadState = c.args.run.now.states.items in
     let stands = c.requires.stands in
     record {
       keeps = step_keeps (row_of core_view c.args.run.now) _ c.args.thread after borrowed.0 borrowed.1
-          c.make_events.ensures.step refl c.make_events.ensures.due c.make_events.ensures.makes refl refl refl refl;
+          c.make_event.ensures.step refl c.make_event.ensures.due c.make_event.ensures.makes refl refl refl refl;
       stop = stop_known (view c.args.run.now.machine.core)
-          (view c.make_events.new.core) states c.args.thread s after c.requires.stop borrowed.0 borrowed.1
-          c.make_events.ensures.stop;
+          (view c.make_event.new.core) states c.args.thread s after c.requires.stop borrowed.0 borrowed.1
+          c.make_event.ensures.stop;
       there = length-set states c.args.thread after;
-      nearer = step_less _ (view c.make_events.new.core) c.args.thread after stands.3.3 stands.1 borrowed.0 borrowed.1
-          c.make_events.ensures.step;
-      less = step_to_do _ (view c.make_events.new.core) c.args.thread after stands.3.3 stands.1 borrowed.0 borrowed.1
-          c.make_events.ensures.step;
-      image = c.make_events.ensures.image;
+      nearer = step_less _ (view c.make_event.new.core) c.args.thread after stands.3.3 stands.1 borrowed.0 borrowed.1
+          c.make_event.ensures.step;
+      less = step_to_do _ (view c.make_event.new.core) c.args.thread after stands.3.3 stands.1 borrowed.0 borrowed.1
+          c.make_event.ensures.step;
+      image = c.make_event.ensures.image;
       collector = refl;
-      stored = capacity_stores (view c.args.run.now.machine.core) (view c.make_events.new.core)
-          (step_capacity _ (view c.make_events.new.core) c.args.thread after stands.3.3 stands.1
-          c.make_events.ensures.step);
-      lost = counts_set states c.args.thread s after _ _ borrowed.0 c.make_events.ensures.lost;
+      stored = capacity_stores (view c.args.run.now.machine.core) (view c.make_event.new.core)
+          (step_capacity _ (view c.make_event.new.core) c.args.thread after stands.3.3 stands.1
+          c.make_event.ensures.step);
+      lost = counts_set states c.args.thread s after _ _ borrowed.0 c.make_event.ensures.lost;
     }
