@@ -3,23 +3,25 @@ ghost use Rattle.melt_model.specs.Config.{InRanges};
 use super::*;
 use crate::run::run_threads;
 use melt_disk::StaleSpace;
-use melt_io::{OpenGate, StaleDisk, SteadyDisk};
+use melt_io::{StaleDisk, SteadyDisk};
 use melt_model::{Config, Report};
 
 /// How often a thread looks for the other before it goes on without it.
-const HOLD: u32 = 100_000_000;
+const HOLD: u32 = 1_000_000_000;
 
-/// A gate that holds each of two threads until it was told of an operation of the other. It counts the threads that it
-/// held in vain.
+/// A gate that holds each of two threads before its operation of this number, until the other has come there too. It
+/// counts the threads that it held in vain.
 #[derive(Drop)]
 struct Meeting {
+    at: u64,
     came: [AtomicU64; 2],
     missed: AtomicU64,
 }
 
 impl Meeting {
-    fn new() -> Meeting {
+    fn new(at: u64) -> Meeting {
         Meeting {
+            at,
             came: [AtomicU64::new(0), AtomicU64::new(0)],
             missed: AtomicU64::new(0),
         }
@@ -41,10 +43,13 @@ impl Meeting {
 }
 
 impl Gate for Meeting {
-    fn before(&self, thread: u32, _op: u64) {
-        if let Some(came) = self.came.get(thread as usize) {
-            came.store(1, Ordering::SeqCst);
-            self.hold();
+    fn before(&self, thread: u32, op: u64) {
+        match self.came.get(thread as usize) {
+            Some(came) if op == self.at => {
+                came.store(1, Ordering::SeqCst);
+                self.hold();
+            }
+            _ => {}
         }
     }
 }
@@ -90,7 +95,7 @@ fn expect_replies<R: Abort>(rt: &R, report: &Report, wanted: &[&[Reply]]) {
 #[test]
 fn two_threads_are_in_one_epoch_at_once(rt: HostRuntime) -> Result<(), Fail> {
     let text = b"melt 1\nthreads 2\nglobals 0\nthread 0\ndrop 0\ndone\nthread 1\ndrop 0\ndone\n";
-    let gate = Meeting::new();
+    let gate = Meeting::new(1);
     let (report, left) = run_over(&rt, rt.alloc(), text, &gate)?;
     expect_replies(&rt, &report, &[&[Reply::Done], &[Reply::Done]]);
     assert!(rt; left.is_some());
@@ -107,7 +112,9 @@ fn objects_of_two_threads_move_to_disk_and_come_back(rt: HostRuntime) -> Result<
         thread 1\nnew 0 0 1\nput 0 0 8\ngstore 1 0\ndrop 0\n\
         collect\ncollect\ncollect\ngload 0 1\nget 0 0\ndone\n";
     let done = Reply::Done;
-    let (report, left) = run_over(&rt, rt.alloc(), text, &OpenGate)?;
+    // Both have dropped their object before the first collection, so that one finds both stale.
+    let gate = Meeting::new(5);
+    let (report, left) = run_over(&rt, rt.alloc(), text, &gate)?;
     let first = [
         done,
         done,
@@ -132,6 +139,8 @@ fn objects_of_two_threads_move_to_disk_and_come_back(rt: HostRuntime) -> Result<
     ];
     expect_replies(&rt, &report, &[&first, &second]);
     assert!(rt; left.is_some());
+    let missed = gate.missed.load(Ordering::SeqCst);
+    assert_eq!(rt; missed, 0);
     let bodies = report.journal.items.iter().map(|it| it.bodies).max();
     assert_eq!(rt; bodies, Some(2));
     Ok(())
