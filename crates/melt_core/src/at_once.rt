@@ -119,6 +119,8 @@ impl Core {
     }
 
     /// Makes an object, if its words do not end past the last word of the heap.
+    // (inlined, since a call of it would have its result cleared in each operation, whichever that is)
+    #[inline(always)]
     fn make_at_once(&mut self, thread: u32, op: Op, shape: Shape, dst: u8) -> StepResult
         requires asks { MayMove (view self.old) thread op }
         requires first { call_of (view self.old) thread ≡ None }
