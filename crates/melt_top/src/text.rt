@@ -41,18 +41,30 @@ fn push_number_line(out: &mut Vec<u8>, number: u64) -> Result<(), NoMemory>
     Ok(())
 }
 
+/// Adds a word that is known where it is added. Its room is looked for once, and its bytes stand in the code.
+#[inline(always)]
+fn push_word<const N: usize>(out: &mut Vec<u8>, word: &[u8; N]) -> Result<(), NoMemory>
+    ensures { OnOk result (out.new.items ≡ out.old.items ++ word.now) }
+{
+    out.reserve(N)?;
+    for byte in word {
+        out.push_reserved(*byte);
+    }
+    Ok(())
+}
+
 fn push_reply(out: &mut Vec<u8>, reply: Reply) -> Result<(), NoMemory>
     ensures { OnOk result (out.new.items ≡ out.old.items ++ reply_line reply) }
 {
     match reply {
-        Reply::Done => Ok(out.extend_from_slice(b"ok\n")?),
-        Reply::Null => Ok(out.extend_from_slice(b"null\n")?),
-        Reply::Ref => Ok(out.extend_from_slice(b"ref\n")?),
+        Reply::Done => push_word(out, b"ok\n"),
+        Reply::Null => push_word(out, b"null\n"),
+        Reply::Ref => push_word(out, b"ref\n"),
         Reply::Num(number) => push_number_line(out, number),
-        Reply::Yes => Ok(out.extend_from_slice(b"yes\n")?),
-        Reply::No => Ok(out.extend_from_slice(b"no\n")?),
-        Reply::Nil => Ok(out.extend_from_slice(b"nil\n")?),
-        Reply::Range => Ok(out.extend_from_slice(b"range\n")?),
+        Reply::Yes => push_word(out, b"yes\n"),
+        Reply::No => push_word(out, b"no\n"),
+        Reply::Nil => push_word(out, b"nil\n"),
+        Reply::Range => push_word(out, b"range\n"),
     }
 }
 
