@@ -71,7 +71,7 @@ static inline word moved(struct heap *heap, word reference) {
 }
 
 /* Ends a collection: what the copied objects refer to is copied too. */
-static void follow(struct heap *heap) {
+static inline void follow(struct heap *heap) {
     for (word *object = heap->words; object < heap->free; object += cost_of(object[0])) {
         word *end = object + HEAD + refs_of(object[0]);
         for (word *slot = object + HEAD; slot < end; slot++) *slot = moved(heap, *slot);
