@@ -43,6 +43,8 @@ static void fill(size_t objects, size_t refs, size_t nums) {
 #ifdef TABLE
 #include "table.h"
 #else
+static void prepare(void) {}
+
 static void collect(void) {
     turn_over(&heap);
     global = moved(&heap, global);
@@ -65,6 +67,7 @@ int main(int count, char **words) {
     size_t objects = strtoull(words[1], NULL, 10), refs = strtoull(words[2], NULL, 10);
     size_t nums = strtoull(words[3], NULL, 10), rounds = strtoull(words[4], NULL, 10);
     if (objects < 1 || refs < 1 || refs > 62 || nums > 62 || rounds < 1) return 2;
+    prepare();
     fill(objects, refs, nums);
     uint64_t sum = checksum();
     double begun = now();

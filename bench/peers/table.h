@@ -1,9 +1,11 @@
 /* The same collection with the new addresses beside the words: in a table, by half the old address, since no two objects
    start in one pair of words. The objects that were found stand in a list, in the order in which they are copied. So all
-   is read from the old words, and none of them changes. Table and list are new at each collection, as in `melt step`. */
+   is read from the old words, and none of them changes. Table and list are new at each collection, as in `melt step`,
+   and made of memory that was given back before. */
+#include <malloc.h>
 
 struct found {
-    uint32_t from, to; /* in words, from 1 on */
+    uint32_t from; /* in words, from 1 on */
     uint8_t refs, nums;
 };
 
@@ -29,8 +31,10 @@ static inline uint32_t find(uint32_t from) {
     word header = table.old[from - 1];
     uint32_t to = table.next;
     if (table.count == table.room) make_room();
-    table.list[table.count++] =
-        (struct found){.from = from, .to = to, .refs = (uint8_t)refs_of(header), .nums = (uint8_t)nums_of(header)};
+    struct found *it = &table.list[table.count++];
+    it->from = from;
+    it->refs = (uint8_t)refs_of(header);
+    it->nums = (uint8_t)nums_of(header);
     *entry = 2 * to + from % 2;
     table.next += (uint32_t)cost_of(header);
     return to;
@@ -38,6 +42,12 @@ static inline uint32_t find(uint32_t from) {
 
 static inline word moved_by_table(word address) {
     return address == 0 ? 0 : (word)(table.words + find((uint32_t)((const word *)address - table.old) + 1) - 1);
+}
+
+/* Memory that is given back is kept, up to 32 MB. */
+static void prepare(void) {
+    mallopt(M_MMAP_THRESHOLD, 32 << 20);
+    mallopt(M_TRIM_THRESHOLD, 64 << 20);
 }
 
 static void collect(void) {
