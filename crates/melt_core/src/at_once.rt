@@ -150,6 +150,8 @@ impl Core {
     }
 
     /// Loads a global.
+    // (inlined for the same reason as `make_at_once`)
+    #[inline(always)]
     fn load_global_at_once(&mut self, thread: u32, op: Op, dst: u8, g: u8) -> StepResult
         requires asks { MayMove (view self.old) thread op }
         requires first { call_of (view self.old) thread ≡ None }
@@ -163,6 +165,7 @@ impl Core {
     }
 
     /// Stores into a global.
+    #[inline(always)]
     fn store_global_at_once(&mut self, thread: u32, op: Op, g: u8, src: u8) -> StepResult
         requires asks { MayMove (view self.old) thread op }
         requires first { call_of (view self.old) thread ≡ None }
