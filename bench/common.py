@@ -37,10 +37,10 @@ def built(program):
     return path
 
 
-def compiled_file(path, folder, *flags):
+def compiled_file(path, folder):
     """The program of a file in C, put into this folder."""
-    program = pathlib.Path(folder, path.stem + "".join(flags))
-    subprocess.run([os.environ.get("CC", "gcc"), "-O2", "-Wall", *flags, "-o", program, path], check=True)
+    program = pathlib.Path(folder, path.stem)
+    subprocess.run([os.environ.get("CC", "gcc"), "-O2", "-Wall", "-o", program, path], check=True)
     return str(program)
 
 
@@ -51,9 +51,9 @@ def compiled(source, folder):
     return compiled_file(path, folder)
 
 
-def peer(name, folder, *flags):
-    """The plain program of this name from bench/peers, compiled with these flags."""
-    return compiled_file(HERE / "peers" / f"{name}.c", folder, *flags)
+def peer(name, folder):
+    """The plain program of this name from bench/peers."""
+    return compiled_file(HERE / "peers" / f"{name}.c", folder)
 
 
 def run(words, given=subprocess.DEVNULL, into=subprocess.DEVNULL, folder=None, wanted=0):

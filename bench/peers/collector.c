@@ -7,9 +7,6 @@
    stands a word that no reference is in. The list is collected so many times, from one space to the other. The second
    one is new memory at the first collection, as in `melt step`.
 
-   Compiled with TABLE, it has the new addresses in a table beside the words (table.h), as Melt has, and not in the old
-   headers.
-
    Written are the seconds of one collection, by the time of the processor, how many words were reached by the last, and
    a sum over all objects of the list, in its order. The sum has to be the one from before the collections. */
 #define HEAD 2
@@ -40,17 +37,11 @@ static void fill(size_t objects, size_t refs, size_t nums) {
     }
 }
 
-#ifdef TABLE
-#include "table.h"
-#else
-static void prepare(void) {}
-
 static void collect(void) {
     turn_over(&heap);
     global = moved(&heap, global);
     follow(&heap);
 }
-#endif
 
 /* A sum of all words of the list but its references, which depends on their order. */
 static uint64_t checksum(void) {
@@ -67,7 +58,6 @@ int main(int count, char **words) {
     size_t objects = strtoull(words[1], NULL, 10), refs = strtoull(words[2], NULL, 10);
     size_t nums = strtoull(words[3], NULL, 10), rounds = strtoull(words[4], NULL, 10);
     if (objects < 1 || refs < 1 || refs > 62 || nums > 62 || rounds < 1) return 2;
-    prepare();
     fill(objects, refs, nums);
     uint64_t sum = checksum();
     double begun = now();

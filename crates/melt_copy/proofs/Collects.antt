@@ -1,13 +1,12 @@
 -- What was copied and put back is a collection.
-use Rattle.std.proofs.Common.{◌≡◌, ℕ, ◌+◌, ◌-◌, ◌<◌, ◌≤◌, zero, suc, List, [], ◌∷◌, length, take, refl, sym, subst, ap}
-use Rattle.std.proofs.Common.{◌∙◌, arith, inl, inr}
+use Rattle.std.proofs.Common.{◌≡◌, ℕ, ◌+◌, ◌<◌, ◌≤◌, zero, suc, List, [], ◌∷◌, length, take, refl, sym, subst, ap}
+use Rattle.std.proofs.Common.{◌∙◌, arith}
 use Rattle.std.specs.Option.{option_map}
 use Rattle.std.specs.Prelude.{Bool, Option, None, Some, slice_get, slice_index, if◌then◌else◌, ◌==◌}
-use Rattle.std.proofs.lemmas.Bool.Decides.{eqb_tells}
 use Rattle.melt_model.specs.declared.reports.Journal.{Journal}
 use Rattle.melt_model.specs.declared.reports.Phase.{Phase}
 use Rattle.melt_word.specs.Words.{cost_of}
-use Rattle.melt_space.specs.Space.{SpaceWords, word_at, Replaces}
+use Rattle.melt_space.specs.Space.{SpaceWords, word_at}
 use Rattle.melt_scion.specs.State.{State}
 use Rattle.melt_scion.specs.Placed.{Maps, IsNamed, Formed}
 use Rattle.melt_scion.specs.Collected.{CountsWords, HeldAt}
@@ -15,43 +14,23 @@ use Rattle.melt_scion.specs.Names.{name_at}
 use Rattle.melt_scion.specs.HomeNames.{NamedHomes, home_name}
 use Rattle.melt_scion.specs.GhostMaps.{NamePairs, named}
 use Rattle.melt_scion.specs.Scions.{scion_at}
-use Rattle.melt_scion.specs.Heaps.{OnDisk, state_of, HasNames, KeepsNames, NamesMade, IsFormed, IsSettled}
+use Rattle.melt_scion.specs.Heaps.{OnDisk, state_of, HasNames, KeepsNames, NamesMade, IsSettled}
 use Rattle.melt_scion.specs.declared.registers.Registers.{Registers}
 use Rattle.melt_scion.specs.declared.heap.Names.{Names}
 use Rattle.melt_scion.specs.declared.heap.Heap.{Heap}
 use Rattle.melt_copy.specs.declared.forwarding.Relocation.{Relocation}
-use Rattle.melt_copy.specs.declared.collect.Copied.{Copied}
 use Rattle.melt_copy.specs.Moving.{Relocates, IsCopy, ObjectMoves, WordMoves, moved_scion, words_in, name_after}
 use Rattle.melt_copy.specs.Moving.{maps_after}
-use Rattle.melt_copy.specs.Tracking.{goes, moved_pair, word_numbered}
+use Rattle.melt_copy.specs.Tracking.{moved_pair, word_numbered}
+use Rattle.melt_copy.specs.Evacuating.{place_of}
 use Rattle.melt_copy.proofs.Pairs.{pairs_after}
-use Rattle.melt_copy.specs.Copied.{NumbersAre, IsCopied, CopiesHeap, PlacesApart, MayRename, AreRenamed, IsPutBack}
+use Rattle.melt_copy.specs.Copied.{NumbersAre, Copied, IsCopied, CopiesHeap, PlacesApart, MayRename, AreRenamed}
+use Rattle.melt_copy.specs.Copied.{StandIn, IsPutBack}
 use Rattle.melt_copy.specs.Copying.{IsCopying, Journals, Collects}
 use Rattle.melt_scion.proofs.NobodyLeaves.{old_home, old_scion}
 use Rattle.melt_copy.proofs.Places.{place_below, same_place}
-use Rattle.melt_copy.proofs.Sources.{found_words}
 use Rattle.melt_copy.proofs.Moved.{copy_carries, copy_collects}
 use Rattle.melt_copy.proofs.Counted.{live_words, held_words}
-
--- what was copied fits into the words that were in use
-pub copied_fits : {phase : Phase} (s : State) (names : Option Names) (copied : Copied) → IsCopied phase s names copied
-    → length copied.words.items ≤ s.free - 1
-copied_fits s names copied is =
-    let words = found_words s (goes copied.forwarding) copied.forwarding.moves.items copied.forwarding.next is.whole
-    is.holds in
-    omega (arith, words, is.size)
-
--- no object stands at address 0
-pub nothing_goes : {phase : Phase} (s : State) (names : Option Names) (copied : Copied) → IsCopied phase s names copied
-    → goes copied.forwarding 0 ≡ 0
-nothing_goes s names copied is =
-    elim (eqb_tells (goes copied.forwarding 0) 0) [
-      | inl same ↦ same.1
-      | inr other ↦
-          let move = is.holds.only 0 other.1 in
-          let object = is.whole.objects move.1.from (is.holds.whole move.0 move.1 move.2).reached in
-          absurd (let first = object.1.first in let from = move.3 in omega (arith, first, from))
-    ]
 
 none_of : (o : Option ℕ) → ((n : ℕ) → o ≡ Some n → ⊥) → o ≡ None
 none_of None none = refl
@@ -78,27 +57,8 @@ can_rename size pairs maps (Some names) moves numbers has made are fits behind p
 }
 
 -- each move has a place of its own
-moves_apart : {phase : Phase} (s : State) (names : Option Names) (copied : Copied) → IsCopied phase s names copied
-    → PlacesApart copied.forwarding.moves.items
-moves_apart s names copied is i j m n here there same =
-    (same_place i j is.holds here there same).0
-
-pub may_rename : (phase : Phase) (heap : Heap) (held : List Registers) (copied : Copied) → IsFormed heap held
-    → CopiesHeap phase heap held copied
-    → MayRename heap.space.used heap.names copied.forwarding.moves.items copied.numbers.items
-may_rename phase heap held copied formed copies =
-    let s : State = state_of heap held formed.disk in
-    let is = copies.is formed.maps formed.disk formed.formed in
-    let f = goes copied.forwarding in
-    let moves = copied.forwarding.moves.items in
-    let words = found_words s f moves copied.forwarding.next is.whole is.holds in
-    let inside = is.whole.inside in
-    can_rename (length heap.space.list) heap.maps formed.maps heap.names moves copied.numbers.items formed.names
-    formed.made.names is.numbers (omega (arith, inside))
-    (λ k above. none_behind formed.maps s k formed.formed (omega (arith, above))) (λ k m at.
-    let place = place_below s f moves copied.forwarding.next k m is.holds at in
-    (place.0, (let below = place.1 in let behind = is.holds.behind in omega (arith, below, behind, words))))
-    (moves_apart s heap.names copied is)
+moves_apart : {phase : Phase} (s : State) (copied : Copied) → IsCopied phase s copied → PlacesApart copied.moves
+moves_apart s copied is i j m n here there same = (same_place i j is.holds here there same).0
 
 -- a name stands where it moved
 name_after_same : (a b : ℕ → Option ℕ) (moves : List Relocation) (k : ℕ) → ((k : ℕ) → a k ≡ b k)
@@ -144,7 +104,7 @@ other_words {phase} f s v w m same object = record {
   numbers = λ j below. same (m.to + 2 + m.shape.refs + j) (omega arith) (omega (arith, below)) ∙ object.numbers j below;
 }
 
-replaced_word : (old new : SpaceWords) (words : List ℕ) (k : ℕ) → Replaces old new words → 1 ≤ k → k ≤ length words
+replaced_word : (old new : SpaceWords) (words : List ℕ) (k : ℕ) → StandIn old new words → 1 ≤ k → k ≤ length words
     → word_at new k ≡ word_numbered words k
 replaced_word old new words zero replaces first last = absurd (omega (arith, first))
 replaced_word old new words (suc k) replaces first last = replaces.front k (omega (arith, last))
@@ -157,25 +117,25 @@ scion_moves f (Some pair) = refl
 
 -- the heap that was put back is a copy
 put_copy : {phase : Phase} {old new : Heap} {held after : List Registers} (disk : OnDisk) {copied : Copied}
-    → IsSettled old → (is : IsCopied phase (state_of old held disk) old.names copied)
+    → IsSettled old → (is : IsCopied phase (state_of old held disk) copied)
     → IsPutBack old new held after copied
-    → IsCopy phase (state_of old held disk) (state_of new after disk) (goes copied.forwarding)
-    copied.forwarding.moves.items is.front
+    → IsCopy phase (state_of old held disk) (state_of new after disk) (place_of copied.moves)
+    copied.moves is.front
 put_copy {phase} {old} {new} {held} disk {copied} settled is put =
     let s : State = state_of old held disk in
-    let f = goes copied.forwarding in
-    let moves = copied.forwarding.moves.items in
-    let free : copied.forwarding.next ≡ new.space.used + 1 =
-    (let behind = is.holds.behind in let used = put.space.used in omega (arith, behind, used, is.size)) in
+    let f = place_of copied.moves in
+    let moves = copied.moves in
+    let free : length copied.words + 1 ≡ new.space.used + 1 =
+    (let used = put.space.used in omega (arith, used)) in
     let globals : length new.globals ≡ length old.globals = ap length put.globals ∙ is.globals_count in
     record {
       found = subst (Relocates s f moves) free is.holds;
       objects = λ k m at.
-          let place = place_below s f moves copied.forwarding.next k m is.holds at in
-          other_words f s (word_numbered copied.words.items) (word_at new.space) m
-          (λ a from to. replaced_word old.space new.space copied.words.items a put.space
+          let place = place_below s f moves (length copied.words + 1) k m is.holds at in
+          other_words f s (word_numbered copied.words) (word_at new.space) m
+          (λ a from to. replaced_word old.space new.space copied.words a put.space
           (let first = place.0 in omega (arith, first, from))
-          (let below = place.1 in let behind = is.holds.behind in omega (arith, below, to, behind, is.size)))
+          (let below = place.1 in omega (arith, below, to)))
           (is.objects k m at);
       global = λ g below.
           subst (λ (ws : List ℕ). WordMoves phase f (s.global g) (slice_index ws g)) (sym put.globals)
@@ -206,12 +166,15 @@ put_collects {old} {new} {held} {after} {copied} {phase} {journal} copying settl
   each = λ maps disk names formed.
       let s : State = state_of old held disk in
       let t : State = state_of new after disk in
-      let f = goes copied.forwarding in
-      let moves = copied.forwarding.moves.items in
-      let is = copies.is maps disk formed in
+      let f = place_of copied.moves in
+      let moves = copied.moves in
+      let is = copies maps disk formed in
       let copy = put_copy disk settled is put in
       let carries = copy_carries phase maps s t f moves is.front is.whole copy formed copying in
-      let live : journal.live ≡ words_in moves = told.rest.live_words ∙ (put.space.used ∙ is.size) in
+      let live : journal.live ≡ words_in moves =
+      (let words = told.rest.live_words ∙ put.space.used in
+      let behind = is.holds.behind in
+      omega (arith, words, behind)) in
       let held_is : journal.held ≡ words_in (take is.front moves) = told.held ∙ is.held_words in
       record {
         after = maps_after maps moves;
@@ -219,7 +182,7 @@ put_collects {old} {new} {held} {after} {copied} {phase} {journal} copying settl
         home = old_home s;
         scion = old_scion s;
         names = has_names maps old.names new.names old.maps new.maps moves
-            (moves_apart s old.names copied is) names put.names;
+            (moves_apart s copied is) names put.names;
         collected = copy_collects phase maps s t f moves is.front is.whole copy formed copying;
         live = subst (CountsWords t (IsNamed (maps_after maps moves))) (sym live)
             (live_words phase maps s t f moves is.front carries formed);
@@ -230,7 +193,7 @@ put_collects {old} {new} {held} {after} {copied} {phase} {journal} copying settl
   tables = record {
     scions = record { is_table = put.scions.is_table; size = put.scions.size };
     forwards = ap length put.forward;
-    names = names_stay old.names new.names old.maps new.maps copied.forwarding.moves.items put.names;
+    names = names_stay old.names new.names old.maps new.maps copied.moves put.names;
   };
   settled = λ p. ap (λ (words : List ℕ). slice_index words p) put.forward ∙ settled p;
 }

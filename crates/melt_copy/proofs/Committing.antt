@@ -12,13 +12,13 @@ use Rattle.melt_copy.specs.Moving.{name_after}
 use Rattle.melt_copy.proofs.Counting.{slice_get-take}
 
 -- what the registers of a thread hold
-register_in-at : (held : List Registers) (t r : ℕ) (d : Registers) → t < length held
+pub register_in-at : (held : List Registers) (t r : ℕ) (d : Registers) → t < length held
     → register_in held t r ≡ slice_index (get_or held t d).regs r
 register_in-at held t r d within = ap (λ (regs : List ℕ). slice_index regs r)
     (get_or-map (λ (x : Registers). x.regs) held t d [] within)
 
 -- a write to the registers of one thread
-register_in-set_same : (held : List Registers) (t r : ℕ) (x : Registers) → t < length held
+pub register_in-set_same : (held : List Registers) (t r : ℕ) (x : Registers) → t < length held
     → register_in (slice_set held t x) t r ≡ slice_index x.regs r
 register_in-set_same held t r x within =
     let there : t < length (slice_set held t x) = omega (arith, length-set held t x) in
@@ -26,7 +26,7 @@ register_in-set_same held t r x within =
     ∙ ap (λ (y : Registers). slice_index y.regs r) (get_or-set_same held t x x within)
 
 -- it leaves those of the others
-register_in-set_other : (held : List Registers) (i t r : ℕ) (x : Registers) → t ≢ i
+pub register_in-set_other : (held : List Registers) (i t r : ℕ) (x : Registers) → t ≢ i
     → register_in (slice_set held i x) t r ≡ register_in held t r
 register_in-set_other held i t r x other =
     ap (λ (all : List (List ℕ)). slice_index (get_or all t []) r) (map-set (λ (y : Registers). y.regs) held i x)
@@ -57,7 +57,7 @@ forwards_more f old new i d x before within here = record {
 }
 
 -- an address to which no object moves has no number
-name_after-none : (name : ℕ → Option ℕ) (moves : List Relocation) (address : ℕ)
+pub name_after-none : (name : ℕ → Option ℕ) (moves : List Relocation) (address : ℕ)
     → ((j : ℕ) (x : Relocation) → slice_get moves j ≡ Some x → x.to ≢ address) → name_after name moves address ≡ None
 name_after-none name [] address free = refl
 name_after-none name (x ∷ moves) address free =
@@ -65,7 +65,7 @@ name_after-none name (x ∷ moves) address free =
     ∙ name_after-none name moves address (λ j y there. free (suc j) y there)
 
 -- a further move gives its address a number, if no earlier one goes there
-name_after-here : (name : ℕ → Option ℕ) (moves : List Relocation) (m : Relocation)
+pub name_after-here : (name : ℕ → Option ℕ) (moves : List Relocation) (m : Relocation)
     → ((j : ℕ) (x : Relocation) → slice_get moves j ≡ Some x → x.to ≢ m.to)
     → name_after name (moves ++ m ∷ []) m.to ≡ name m.from
 name_after-here name [] m free = cond-true (eqb m.to m.to) (name m.from) None (eq-eqb m.to m.to refl)
@@ -74,7 +74,7 @@ name_after-here name (x ∷ moves) m free =
     ∙ name_after-here name moves m (λ j y there. free (suc j) y there)
 
 -- it changes no other number
-name_after-other : (name : ℕ → Option ℕ) (moves : List Relocation) (m : Relocation) (address : ℕ) → address ≢ m.to
+pub name_after-other : (name : ℕ → Option ℕ) (moves : List Relocation) (m : Relocation) (address : ℕ) → address ≢ m.to
     → name_after name (moves ++ m ∷ []) address ≡ name_after name moves address
 name_after-other name [] m address other =
     cond-false (eqb m.to address) (name m.from) None (ne_eqb m.to address (λ e. other (sym e)))

@@ -12,6 +12,8 @@ pub mod Moved
 pub mod Entries
 pub mod Finding
 pub mod Growth
+pub mod Growing
+pub mod Gathered
 pub mod Following
 pub mod Copies
 pub mod Queue
@@ -19,7 +21,6 @@ pub mod Room
 pub mod Held
 pub mod Walking
 pub mod Roots
-pub mod Outs
 pub mod LiveSets
 pub mod Pairs
 pub mod Collects
@@ -32,3 +33,9 @@ pub mod SettlingOne
 pub mod Settled
 pub mod Visited
 pub mod Reachable
+pub mod Evacuated
+pub mod Forwarded
+pub mod Scanned
+pub mod Scanning
+pub mod Starting
+pub mod Outs

@@ -1,101 +1,373 @@
--- A heap that is copied out.
-use Rattle.std.proofs.Common.{◌≡◌, ◌≢◌, ℕ, ◌+◌, ◌<◌, List, [], length, take, sym, subst, ap, ◌∙◌, arith}
-use Rattle.std.specs.Prelude.{nat_lt, Some, slice_get, slice_index}
-use Rattle.std.proofs.lemmas.List.{take_all}
+-- A heap that is copied out: what each call of a collection finds, and what is copied in the end.
+use Rattle.std.proofs.Common.{◌≡◌, ◌≢◌, ℕ, ◌+◌, ◌^◌, ◌<◌, ◌≤◌, List, length, take, refl, sym, ap, ◌∙◌, subst}
+use Rattle.std.proofs.Common.{arith, inl, inr, length-append}
+use Rattle.std.specs.Prelude.{Option, None, Some, nat_lt, slice_get, slice_index}
+use Rattle.std.specs.Option.{option_map}
+use Rattle.std.proofs.lemmas.Bool.{cases_eq}
+use Rattle.std.proofs.lemmas.List.{take_all, take-append-le}
 use Rattle.std.proofs.lemmas.Option.{slice_get_within}
+use Rattle.melt_model.proofs.Histories.{slice_get-append_left}
 use Rattle.melt_model.specs.declared.reports.Phase.{Phase}
-use Rattle.melt_scion.specs.State.{State}
-use Rattle.melt_scion.specs.Scions.{IsTable}
-use Rattle.melt_scion.specs.Heaps.{OnDisk, state_of}
+use Rattle.melt_space.specs.Space.{SpaceWords, Replaces}
+use Rattle.melt_scion.specs.State.{Scion}
+use Rattle.melt_scion.specs.State.Reached.{in_global, at_scion}
+use Rattle.melt_scion.specs.Scions.{Scions, scion_at}
+use Rattle.melt_scion.specs.Placed.{Maps, Formed}
+use Rattle.melt_scion.specs.Heaps.{OnDisk, IsFormed, register_in, scion_in, state_of}
 use Rattle.melt_scion.specs.declared.registers.Registers.{Registers}
 use Rattle.melt_scion.specs.declared.heap.Heap.{Heap}
 use Rattle.melt_copy.specs.declared.forwarding.Relocation.{Relocation}
-use Rattle.melt_copy.specs.declared.forwarding.Forwarding.{Forwarding}
-use Rattle.melt_copy.specs.declared.live.LiveSet.{LiveSet}
-use Rattle.melt_copy.specs.declared.collect.Copied.{Copied}
-use Rattle.melt_copy.specs.Moving.{Relocates, AreHeld, ObjectMoves, WordMoves, words_in}
-use Rattle.melt_copy.specs.Tracking.{goes, word_numbered, Tracks, TracksIn, TracksScions}
-use Rattle.melt_copy.specs.Tracking.{FindsScions, Grows, HasCopied, Extends}
-use Rattle.melt_copy.specs.Reaching.{FindsFront}
-use Rattle.melt_copy.specs.Copied.{NumbersAre, IsCopied, CopiesHeap}
-use Rattle.melt_copy.proofs.Growth.{WordMoves-more}
-use Rattle.melt_copy.proofs.Roots.{FindsRoots, since_globals, front_held, front_words, scions_found}
-use Rattle.melt_copy.proofs.Roots.{roots_found, before_scions}
+use Rattle.melt_copy.specs.declared.to_space.ToSpace.{ToSpace}
+use Rattle.melt_copy.specs.Moving.{AreHeld, ObjectMoves, WordMoves, words_in}
+use Rattle.melt_copy.specs.Tracking.{MovesScions, moved_pair, word_numbered}
+use Rattle.melt_copy.specs.Copied.{CopiesHeap, StandIn}
+use Rattle.melt_copy.specs.Evacuating.{AreCarried, Collection, Evacuates, EvacuatesIn, EvacuatesQueue, EvacuatesScions}
+use Rattle.melt_copy.specs.Evacuating.{EvacuatesThreads, FindsMore, FindsThreads, ThreadsMove, place_of}
+use Rattle.melt_copy.specs.Visits.{CountsReached}
+use Rattle.melt_copy.proofs.Growing.{more-then, stays_at, place_more, still_placed, word_more, nothing_at_0}
+use Rattle.melt_copy.proofs.Places.{place_below}
+use Rattle.melt_copy.proofs.Roots.{none_there, scion_of}
+use Rattle.melt_copy.proofs.Sources.{found_words}
+use Rattle.melt_copy.proofs.Starting.{Begins, collection_of, evacuates_start}
+use Rattle.melt_copy.proofs.Visited.{counts_over, few_found}
 
--- everything that can be reached was copied
-pub is_copied : {phase : Phase} {heap : Heap} (held : List Registers) (disk : OnDisk) {live : LiveSet}
-    {second third last : Forwarding} {none globals : List ℕ} (copied : Copied) → copied.forwarding ≡ last
-    → copied.globals.items ≡ globals → copied.held ≡ live.held_words → none ≡ []
-    → FindsRoots heap (state_of heap held disk) live second third last → Extends none globals (length heap.globals) →
-    ((g : ℕ) → g < length heap.globals → WordMoves phase (goes second) (slice_index heap.globals g) (slice_index globals
-    (length none + g)))
-    → HasCopied phase live.front heap.space (state_of heap held disk) last copied.words.items (length last.moves.items)
-    → NumbersAre heap.names last.moves.items copied.numbers.items
-    → IsCopied phase (state_of heap held disk) heap.names copied
-is_copied {phase} {heap} held disk {live} {second} {third} {last} {none} {globals} copied forwarding_is globals_is
-    held_is empty roots extends moves has numbers =
-    let s : State = state_of heap held disk in
-    let n_zero : length none ≡ 0 = ap length empty in
-    let whole_front : take (length last.moves.items) last.moves.items ≡ last.moves.items =
-    take_all (length last.moves.items) last.moves.items (omega arith) in
+-- a move that is among the first was there before the others
+pub was_at : (old new : List Relocation) (k : ℕ) (m : Relocation) → FindsMore old new → k < length old
+    → slice_get new k ≡ Some m → slice_get old k ≡ Some m
+was_at old new k m more below at = sym (slice_get-append_left old more.rest k below)
+    ∙ (sym (ap (λ (ms : List Relocation). slice_get ms k) more.is) ∙ at)
+
+-- the words of the first objects, when more were found
+pub words_stay : (old new : List Relocation) (k : ℕ) → FindsMore old new → k ≤ length old
+    → words_in (take k new) ≡ words_in (take k old)
+words_stay old new k more within = ap (λ (ms : List Relocation). words_in (take k ms)) more.is
+    ∙ ap words_in (take-append-le k old more.rest within)
+
+pub longer : (old new : List Relocation) → FindsMore old new → length old ≤ length new
+longer old new more =
+    let sum : length new ≡ length old + length more.rest = ap length more.is ∙ length-append old more.rest in
+    omega (arith, sum)
+
+-- an object of whose words all were moved
+object_moved : (c : Collection) (space : SpaceWords) (to : ToSpace) (k : ℕ) (m : Relocation)
+    → Evacuates c space to (length to.words.items) → slice_get to.moves k ≡ Some m
+    → ObjectMoves c.phase (nat_lt k c.front) (place_of to.moves) c.state (word_numbered to.words.items) m
+object_moved c space to k m evacuates at =
+    let word = word_numbered to.words.items in
+    let f = place_of to.moves in
+    let place = place_below c.state f to.moves (length to.words.items + 1) k m evacuates.holds at in
     record {
-      whole = has.tracks.whole;
-      holds = subst (λ (p : Forwarding). Relocates s (goes p) p.moves.items p.next)
-          (sym forwarding_is) has.tracks.holds;
-      size = has.size ∙ (ap words_in whole_front ∙ ap (λ (p : Forwarding). words_in p.moves.items) (sym forwarding_is));
-      objects = λ k m at.
-          let there : slice_get last.moves.items k ≡ Some m =
-          ap (λ (p : Forwarding). slice_get p.moves.items k) (sym forwarding_is) ∙ at in
-          subst (λ (p : Forwarding). ObjectMoves phase (nat_lt k live.front) (goes p) s
-          (word_numbered copied.words.items) m) (sym forwarding_is)
-          (has.objects k m (slice_get_within last.moves.items k m there) there);
-      globals_count = ap length globals_is ∙ (let size = extends.size in omega (arith, size, n_zero));
-      globals = λ g below.
-          let here : WordMoves phase (goes second) (slice_index heap.globals g) (slice_index globals g) =
-          subst (λ (n : ℕ). WordMoves phase (goes second) (slice_index heap.globals g) (slice_index globals n))
-          (omega (arith, n_zero)) (moves g below) in
-          subst (λ (p : Forwarding). WordMoves phase (goes p) (s.global g) (slice_index copied.globals.items g))
-          (sym forwarding_is)
-          (subst (λ (ws : List ℕ). WordMoves phase (goes last) (s.global g) (slice_index ws g)) (sym globals_is)
-          (WordMoves-more second last _ _
-          (since_globals heap held disk live second third last roots) here));
-      front = live.front;
-      held = subst (λ (p : Forwarding). AreHeld s p.moves.items live.front) (sym forwarding_is)
-          (front_held heap held disk live second third last roots);
-      scions = λ k x there.
-          subst (λ (p : Forwarding). goes p x.address ≢ 0) (sym forwarding_is)
-          (scions_found heap held disk live second third last roots k x there);
-      held_words = held_is ∙ (front_words heap held disk live second third last roots
-          ∙ ap (λ (p : Forwarding). words_in (take live.front p.moves.items)) (sym forwarding_is));
-      numbers = subst (λ (p : Forwarding). NumbersAre heap.names p.moves.items copied.numbers.items)
-          (sym forwarding_is) numbers;
+      header = λ header starts.
+          let part = evacuates.moved k m 0 at (omega arith) (let last = place.1 in omega (arith, last)) in
+          ap word (omega arith) ∙ part.header refl header starts;
+      home = (evacuates.moved k m 1 at (omega arith) (let last = place.1 in omega (arith, last))).home refl;
+      slots = λ i below.
+          let part = evacuates.moved k m (2 + i) at (omega (arith, below))
+          (let last = place.1 in omega (arith, last, below)) in
+          subst (λ (a : ℕ). WordMoves c.phase f (c.state.word a) (word (m.to + 2 + i)))
+          (let same : m.from + (2 + i) ≡ m.from + 2 + i = omega arith in same)
+          (subst (λ (a : ℕ). WordMoves c.phase f (c.state.word (m.from + (2 + i))) (word a))
+          (let same : m.to + (2 + i) ≡ m.to + 2 + i = omega arith in same)
+          (part.slot (omega arith) (omega (arith, below))));
+      numbers = λ j below.
+          let part = evacuates.moved k m (2 + m.shape.refs + j) at (omega (arith, below))
+          (let last = place.1 in omega (arith, last, below)) in
+          let new : m.to + 2 + m.shape.refs + j ≡ m.to + (2 + m.shape.refs + j) = omega arith in
+          let old : m.from + (2 + m.shape.refs + j) ≡ m.from + 2 + m.shape.refs + j = omega arith in
+          ap word new ∙ (part.number (omega arith) ∙ ap c.state.word old);
     }
 
-pub copies : {old now : Heap} (held : List Registers) (same : old ≡ now) {live : LiveSet}
-    (front : FindsFront now held live) {words : List ℕ} (words_are : words ≡ old.globals) {second : Forwarding}
-    (finds_globals : (s : State) → TracksIn old.space s live.forwarding words → Tracks old.space s second)
-    {phase : Phase} {third last : Forwarding} {none globals : List ℕ} (copied : Copied) → Grows live.forwarding second
-    → none ≡ [] → Extends none globals (length words) → ((g : ℕ) → g < length words → WordMoves phase (goes second)
-    (slice_index words g) (slice_index globals (length none + g))) → Grows second third → FindsScions third old.scions
-    → ((s : State) → TracksScions old.space s second old.scions → Tracks old.space s third) → Grows third last → ((s :
-    State) → Tracks old.space s third → HasCopied phase live.front old.space s last copied.words.items (length
-    last.moves.items)) → {moves : List Relocation} → moves ≡ last.moves.items
-    → NumbersAre old.names moves copied.numbers.items → copied.forwarding ≡ last → copied.globals.items ≡ globals
-    → copied.held ≡ live.held_words → copied.live.items ≡ old.scions.live → IsTable old.scions
-    → CopiesHeap phase now held copied
-copies {old} {now} held same {live} front {words} words_are {second} finds_globals {phase} {third} {last} {none}
-    {globals} copied grows empty extends move grows_scions scions finds_scions grows_last has ms_is numbers
-    forwarding_is globals_is held_is live_is table =
-    subst (λ (heap : Heap). CopiesHeap phase heap held copied) same (record {
-      is = λ maps disk formed.
-          is_copied held disk copied forwarding_is globals_is held_is empty
-          (roots_found old now held same live front second third last grows grows_scions scions grows_last maps
-          disk formed) (subst (λ (ws : List ℕ). Extends none globals (length ws)) words_are extends)
-          (subst (λ (ws : List ℕ). (g : ℕ) → g < length ws
-          → WordMoves phase (goes second) (slice_index ws g) (slice_index globals (length none + g))) words_are move)
-          (has (state_of old held disk) (finds_scions (state_of old held disk) (before_scions old now held same live
-          front words words_are second finds_globals maps disk formed)))
-          (subst (λ (l : List Relocation). NumbersAre old.names l copied.numbers.items) ms_is numbers);
-      live = live_is;
-      table = table;
-    })
+-- the words that were copied are no more than those in use
+copied_fits : (c : Collection) (space : SpaceWords) (to : ToSpace) (done : ℕ) → Evacuates c space to done
+    → length to.words.items ≤ length space.list
+copied_fits c space to done evacuates =
+    let words = found_words c.state (place_of to.moves) to.moves (length to.words.items + 1) evacuates.whole
+    evacuates.holds in
+    let behind = evacuates.holds.behind in
+    let inside = evacuates.whole.inside in
+    let size = evacuates.size in
+    omega (arith, words, behind, inside, size)
+
+pair_more : (old new : List Relocation) → FindsMore old new → (o : Option (ℕ × ℕ))
+    → ((pair : ℕ × ℕ) → o ≡ Some pair → place_of old pair.1 ≢ 0)
+    → option_map (moved_pair (place_of old)) o ≡ option_map (moved_pair (place_of new)) o
+pair_more old new more None finds = refl
+pair_more old new more (Some pair) finds =
+    ap (λ (a : ℕ). Some (pair.0, a)) (sym (place_more old new pair.1 more (finds pair refl)))
+
+-- The objects in registers were found, before all others.
+pub record HeldFound (heap : Heap) (held after : List Registers) (space : SpaceWords) (to : ToSpace) : Type 0 where
+  pub start_space : SpaceWords
+  pub start : ToSpace
+  pub begins : Begins heap start_space start
+  pub moves : ThreadsMove to.moves held after
+  pub finds : FindsThreads start.moves to.moves held
+  pub evacuates : (c : Collection) → EvacuatesThreads c start_space start held → Evacuates c space to 0
+
+-- then what globals refer to
+pub record GlobalsMoved (phase : Phase) (heap : Heap) (held after : List Registers) (held_words : ℕ) (globals : List ℕ)
+    (space : SpaceWords) (to : ToSpace) : Type 0 where
+  pub first_space : SpaceWords
+  pub first : ToSpace
+  pub before : HeldFound heap held after first_space first
+  pub held_is : held_words ≡ length first.words.items
+  pub words : List ℕ
+  pub words_are : words ≡ heap.globals
+  pub count : length globals ≡ length words
+  pub moves : (g : ℕ) → g < length words
+      → WordMoves phase (place_of to.moves) (slice_index words g) (slice_index globals g)
+  pub more : FindsMore first.moves to.moves
+  pub evacuates : (c : Collection) → EvacuatesIn c phase first_space first words → Evacuates c space to 0
+
+-- then the objects of live scions
+pub record ScionsMoved (phase : Phase) (heap : Heap) (held after : List Registers) (held_words : ℕ) (globals : List ℕ)
+    (scions : Scions) (space : SpaceWords) (to : ToSpace) : Type 0 where
+  pub second_space : SpaceWords
+  pub second : ToSpace
+  pub before : GlobalsMoved phase heap held after held_words globals second_space second
+  pub table : Scions
+  pub table_is : table ≡ heap.scions
+  pub moves : MovesScions (place_of to.moves) table scions
+  pub finds : (k : ℕ) (pair : ℕ × ℕ) → scion_at table k ≡ Some pair → place_of to.moves pair.1 ≢ 0
+  pub more : FindsMore second.moves to.moves
+  pub evacuates : (c : Collection) → EvacuatesScions c second_space second table → Evacuates c space to 0
+
+-- and then what slots lead to
+pub record AllMoved (phase : Phase) (heap : Heap) (held after : List Registers) (held_words : ℕ) (globals : List ℕ)
+    (scions : Scions) (space : SpaceWords) (to : ToSpace) : Type 0 where
+  pub third_space : SpaceWords
+  pub third : ToSpace
+  pub before : ScionsMoved phase heap held after held_words globals scions third_space third
+  pub more : FindsMore third.moves to.moves
+  pub evacuates : (c : Collection) → EvacuatesQueue c phase held_words third_space third 0
+      → Evacuates c space to (length to.words.items)
+
+module _ (phase : Phase) (heap : Heap) (held after : List Registers) (maps : Maps) (disk : OnDisk)
+    (formed : Formed maps (state_of heap held disk)) (front : ℕ) where
+  abbrev its : Collection
+  its = collection_of phase heap held disk front
+
+  pub held_evacuates : {space : SpaceWords} {to : ToSpace} → HeldFound heap held after space to
+      → Evacuates its space to 0
+  held_evacuates found =
+      found.evacuates its (evacuates_start maps disk heap held phase front found.start_space found.start found.begins
+      formed)
+
+  -- globals are words of references to objects that can be found
+  pub before_globals : {space : SpaceWords} {to : ToSpace} (words : List ℕ) → words ≡ heap.globals
+      → HeldFound heap held after space to → EvacuatesIn its phase space to words
+  before_globals {space} {to} words same found =
+      let evacuates = held_evacuates found in
+      subst (EvacuatesIn its phase space to) (sym same) (record {
+        evacuates = evacuates;
+        phase_is = refl;
+        references = λ g below. evacuates.whole.globals g below;
+        reached = λ g a below refers. in_global g a below refers;
+      })
+
+  globals_evacuates : {held_words : ℕ} {globals : List ℕ} {space : SpaceWords} {to : ToSpace}
+      → GlobalsMoved phase heap held after held_words globals space to → Evacuates its space to 0
+  globals_evacuates moved = moved.evacuates its (before_globals moved.words moved.words_are moved.before)
+
+  -- the objects of live scions can be found
+  pub before_scions : {held_words : ℕ} {globals : List ℕ} {space : SpaceWords} {to : ToSpace}
+      (table : Scions) → table ≡ heap.scions
+      → GlobalsMoved phase heap held after held_words globals space to → EvacuatesScions its space to table
+  before_scions {space} {to} table same moved =
+      subst (EvacuatesScions its space to) (sym same) (record {
+        evacuates = globals_evacuates moved;
+        reached = λ k pair at. at_scion k (record { home = pair.0; address = pair.1 })
+            (ap (option_map (λ (p : ℕ × ℕ). record { home = p.0; address = p.1 })) at);
+      })
+
+  pub scions_evacuates : {held_words : ℕ} {globals : List ℕ} {scions : Scions} {space : SpaceWords} {to : ToSpace}
+      → ScionsMoved phase heap held after held_words globals scions space to → Evacuates its space to 0
+  scions_evacuates moved = moved.evacuates its (before_scions moved.table moved.table_is moved.before)
+
+-- the copy when the objects in registers were found
+abbrev pub held_copy : {phase : Phase} {heap : Heap} {held after : List Registers} {held_words : ℕ} {globals : List ℕ}
+    {scions : Scions} {space : SpaceWords} {to : ToSpace}
+    → ScionsMoved phase heap held after held_words globals scions space to → ToSpace
+held_copy moved = moved.before.first
+
+module _ {phase : Phase} {heap : Heap} {held after : List Registers} {held_words : ℕ} {globals : List ℕ}
+    {scions : Scions} {space : SpaceWords} {to : ToSpace}
+    (roots : ScionsMoved phase heap held after held_words globals scions space to) where
+  since_first : FindsMore (held_copy roots).moves to.moves
+  since_first = more-then (held_copy roots).moves roots.second.moves to.moves roots.before.more roots.more
+
+  -- no object is done, and the words of those in registers are counted
+  pub before_scan : (maps : Maps) (disk : OnDisk) → Formed maps (state_of heap held disk)
+      → EvacuatesQueue (collection_of phase heap held disk (length (held_copy roots).moves)) phase held_words space to 0
+  before_scan maps disk formed =
+      let same = roots.before.held_is in
+      let front = length (held_copy roots).moves in
+      let first = held_evacuates phase heap held after maps disk formed front roots.before.before in
+      record {
+        evacuates = scions_evacuates phase heap held after maps disk formed front roots;
+        phase_is = refl;
+        count = 0;
+        count_within = omega arith;
+        done_is = refl;
+        front_within = longer (held_copy roots).moves to.moves since_first;
+        held_is =
+            (let behind = first.holds.behind in
+            let words : held_words ≡ words_in (held_copy roots).moves = omega (arith, same, behind) in
+            words ∙ (sym (ap words_in (take_all front (held_copy roots).moves (omega arith)))
+            ∙ sym (words_stay (held_copy roots).moves to.moves front since_first (omega arith))));
+      }
+
+module _ {phase : Phase} {heap : Heap} {held after : List Registers} {held_words : ℕ} {globals : List ℕ}
+    {scions : Scions} {space : SpaceWords} {to : ToSpace}
+    (all : AllMoved phase heap held after held_words globals scions space to) where
+  abbrev roots : ScionsMoved phase heap held after held_words globals scions all.third_space all.third
+  roots = all.before
+
+  abbrev first : ToSpace
+  first = held_copy roots
+
+  abbrev front : ℕ
+  front = length first.moves
+
+  -- those that were found since registers and since globals were looked at
+  first_more : FindsMore first.moves to.moves
+  first_more = more-then first.moves all.third.moves to.moves (since_first roots) all.more
+
+  second_more : FindsMore roots.second.moves to.moves
+  second_more = more-then roots.second.moves all.third.moves to.moves roots.more all.more
+
+  all_evacuates : (maps : Maps) (disk : OnDisk) → Formed maps (state_of heap held disk)
+      → Evacuates (collection_of phase heap held disk front) space to (length to.words.items)
+  all_evacuates maps disk formed =
+      all.evacuates (collection_of phase heap held disk front) (before_scan roots maps disk formed)
+
+  first_evacuates : (maps : Maps) (disk : OnDisk) → Formed maps (state_of heap held disk)
+      → Evacuates (collection_of phase heap held disk front) roots.before.first_space first 0
+  first_evacuates maps disk formed = held_evacuates phase heap held after maps disk formed front roots.before.before
+
+  -- the first objects are those in registers
+  are_held : (maps : Maps) (disk : OnDisk) → Formed maps (state_of heap held disk)
+      → AreHeld (state_of heap held disk) to.moves front
+  are_held maps disk formed =
+      let found = roots.before.before in
+      record {
+        each = λ k m at under. elim (found.finds k m (was_at first.moves to.moves k m first_more under at)) [
+          | inl before ↦ absurd (none_there found.start.moves k m found.begins.moves before)
+          | inr holds ↦ holds
+        ];
+        all = λ t r full.
+            let known = found.moves.found t r full in
+            let move = (first_evacuates maps disk formed).holds.only (register_in held t r) known in (
+              move.0,
+              move.1,
+              stays_at first.moves to.moves move.0 move.1 first_more move.2,
+              slice_get_within first.moves move.0 move.1 move.2,
+              move.3,
+            );
+      }
+
+  -- the objects of live scions were found
+  scions_found : (k : ℕ) (x : Scion) → scion_in heap.scions k ≡ Some x → place_of to.moves x.address ≢ 0
+  scions_found k x live =
+      let at = scion_of (scion_at heap.scions k) x live in
+      let there : scion_at roots.table k ≡ Some at.0 =
+      ap (λ (table : Scions). scion_at table k) roots.table_is ∙ at.1 in
+      still_placed all.third.moves to.moves x.address all.more
+      (subst (λ (a : ℕ). place_of all.third.moves a ≢ 0) at.2 (roots.finds k at.0 there))
+
+  -- everything that can be reached was copied
+  pub copies : CopiesHeap phase heap held
+      (record { moves = to.moves; words = to.words.items; globals = globals; held = held_words })
+  copies maps disk formed =
+      let c = collection_of phase heap held disk front in
+      let evacuates = all_evacuates maps disk formed in
+      let words = ap length roots.before.words_are in
+      record {
+        front = front;
+        whole = evacuates.whole;
+        holds = evacuates.holds;
+        objects = λ k m at. object_moved c space to k m evacuates at;
+        globals_count = (let count = roots.before.count in omega (arith, count, words));
+        globals = λ g below.
+            subst (λ (word : ℕ). WordMoves phase (place_of to.moves) word (slice_index globals g))
+            (ap (λ (ws : List ℕ). slice_index ws g) roots.before.words_are)
+            (word_more roots.second.moves to.moves (slice_index roots.before.words g) (slice_index globals g)
+            second_more (roots.before.moves g (omega (arith, below, words))));
+        held = are_held maps disk formed;
+        scions = scions_found;
+        held_words =
+            (before_scan roots maps disk formed).held_is
+            ∙ sym (words_stay all.third.moves to.moves front all.more
+            (longer first.moves all.third.moves (since_first roots)));
+      }
+
+  -- registers hold the new addresses
+  pub registers_moved : IsFormed heap held → (t r : ℕ)
+      → register_in after t r ≡ place_of to.moves (register_in held t r)
+  registers_moved formed t r =
+      let before = first_evacuates formed.maps formed.disk formed.formed in
+      let now = all_evacuates formed.maps formed.disk formed.formed in
+      let found = roots.before.before in
+      elim (cases_eq (register_in held t r) 0) [
+        | inl none ↦
+            found.moves.each t r
+            ∙ (ap (place_of first.moves) none
+            ∙ (nothing_at_0 before
+            ∙ (sym (nothing_at_0 now)
+            ∙ ap (place_of to.moves) (sym none))))
+        | inr full ↦
+            found.moves.each t r
+            ∙ sym (place_more first.moves to.moves (register_in held t r) first_more (found.moves.found t r full))
+      ]
+
+  -- and live scions
+  pub scions_moved : MovesScions (place_of to.moves) heap.scions scions
+  scions_moved = subst (λ (table : Scions). MovesScions (place_of to.moves) table scions) roots.table_is (record {
+    is_table = roots.moves.is_table;
+    each = λ k.
+        roots.moves.each k
+        ∙ pair_more all.third.moves to.moves all.more (scion_at roots.table k) (roots.finds k);
+    size = roots.moves.size;
+  })
+
+  -- the numbers of the objects stand at their new addresses too
+  pub names_carried : IsFormed heap held → AreCarried heap.names to.names to.moves
+  names_carried formed = (all_evacuates formed.maps formed.disk formed.formed).names
+
+  pub all_fits : IsFormed heap held → length to.words.items ≤ length space.list
+  all_fits formed =
+      copied_fits (collection_of phase heap held formed.disk front) space to (length to.words.items)
+      (all_evacuates formed.maps formed.disk formed.formed)
+
+  -- the space has as many words as it had
+  same_size : IsFormed heap held → length space.list ≡ length heap.space.list
+  same_size formed = sym (all_evacuates formed.maps formed.disk formed.formed).size
+
+  -- the copies are the first words of the space
+  pub stands_in : {new : SpaceWords} → IsFormed heap held → Replaces space new to.words.items
+      → StandIn heap.space new to.words.items
+  stands_in formed replaces = record {
+    front = replaces.front;
+    size = replaces.size ∙ same_size formed;
+    used = replaces.used;
+  }
+
+  -- they are few, and so are those of the objects in registers
+  pub held_small : IsFormed heap held → held_words < 2 ^ 30
+  held_small formed =
+      let before = first_evacuates formed.maps formed.disk formed.formed in
+      let c = collection_of phase heap held formed.disk front in
+      let fits = copied_fits c roots.before.first_space first 0 before in
+      let size = before.size in
+      let small = before.whole.small in
+      let words = roots.before.held_is in
+      omega (arith, fits, size, small, words)
+
+  -- what was copied takes no more words than all that can be reached
+  pub few_copied : IsFormed heap held → (total : ℕ) → CountsReached heap held total → length to.words.items ≤ total
+  few_copied formed total counts =
+      let evacuates = all_evacuates formed.maps formed.disk formed.formed in
+      let few = few_found (state_of heap held formed.disk) (place_of to.moves) to.moves (length to.words.items + 1)
+      evacuates.holds total (counts_over heap held formed.disk total counts) in
+      let behind = evacuates.holds.behind in
+      omega (arith, few, behind)

@@ -31,7 +31,8 @@ pub whole_heap : (maps : Maps) (heap : Heap) (held : List Registers) (disk : OnD
 whole_heap maps heap held disk space formed =
     formed_whole maps (state_of heap held disk) (omega (arith, space.used)) formed
 
-none_there : (ms : List Relocation) (k : ℕ) (m : Relocation) → ms ≡ [] → slice_get ms k ≡ Some m → ⊥
+-- of a list without moves none is there
+pub none_there : (ms : List Relocation) (k : ℕ) (m : Relocation) → ms ≡ [] → slice_get ms k ≡ Some m → ⊥
 none_there ms k m empty at = let below = slice_get_within ms k m at in let nought =
     ap length empty in omega (arith, below, nought)
 
@@ -118,7 +119,7 @@ tracks_globals heap held disk forwarding words same tracks =
     })
 
 -- the pair of a scion in the table
-scion_of : (o : Option (ℕ × ℕ)) (x : Scion)
+pub scion_of : (o : Option (ℕ × ℕ)) (x : Scion)
     → option_map (λ (pair : ℕ × ℕ). record { home = pair.0; address = pair.1 }) o ≡ Some x
     → (pair : ℕ × ℕ) × (o ≡ Some pair) × (pair.1 ≡ x.address)
 scion_of None x is = absurd (cc)

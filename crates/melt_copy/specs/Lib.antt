@@ -5,3 +5,4 @@ pub mod Copied
 pub mod Reaching
 pub mod Settling
 pub mod Visits
+pub mod Evacuating

@@ -1,7 +1,6 @@
 -- What the parts of a copying collection do, over every state that has the words of the space.
-use Rattle.std.specs.Prelude.{◌≡◌, ◌≢◌, ℕ, zero, suc, ◌+◌, ◌*◌, ◌/◌, ◌%◌, ◌<◌, ◌==◌, nat_lt, if◌then◌else◌, List, ◌++◌}
-use Rattle.std.specs.Prelude.{length, take, slice_get, slice_index, Some, ◌⊎◌}
-use Rattle.melt_model.specs.declared.reports.Phase.{Phase}
+use Rattle.std.specs.Prelude.{◌≡◌, ◌≢◌, ℕ, zero, suc, ◌+◌, ◌*◌, ◌/◌, ◌%◌, ◌<◌, ◌==◌, if◌then◌else◌, List, ◌++◌}
+use Rattle.std.specs.Prelude.{length, slice_get, slice_index, Some, ◌⊎◌}
 use Rattle.melt_space.specs.Space.{SpaceWords, word_at}
 use Rattle.melt_scion.specs.State.{State, RefersTo, Reached}
 use Rattle.std.specs.Option.{option_map}
@@ -10,7 +9,7 @@ use Rattle.melt_scion.specs.Scions.{Scions, IsTable, scion_at}
 use Rattle.melt_scion.specs.declared.registers.Registers.{Registers}
 use Rattle.melt_copy.specs.declared.forwarding.Relocation.{Relocation}
 use Rattle.melt_copy.specs.declared.forwarding.Forwarding.{Forwarding}
-use Rattle.melt_copy.specs.Moving.{IsWhole, IsRefWord, IsRelocation, Relocates, ObjectMoves, words_in}
+use Rattle.melt_copy.specs.Moving.{IsWhole, IsRefWord, IsRelocation, Relocates}
 
 -- the entry of an object that moves from one address to another: twice the new one, and the parity of the old one
 abbrev pub entry_of : ℕ → ℕ → ℕ
@@ -58,15 +57,6 @@ pub record TracksFor (space : SpaceWords) (s : State) (forwarding : Forwarding) 
 abbrev pub word_numbered : List ℕ → ℕ → ℕ
 word_numbered words zero = 0
 word_numbered words (suc k) = slice_index words k
-
--- The first objects of the forwarding, so many of them, were copied in this phase. Registers hold those before the
--- front.
-pub record HasCopied (phase : Phase) (front : ℕ) (space : SpaceWords) (s : State) (forwarding : Forwarding)
-    (words : List ℕ) (count : ℕ) : Type 0 where
-  pub tracks : Tracks space s forwarding
-  pub size : length words ≡ words_in (take count forwarding.moves.items)
-  pub objects : (k : ℕ) (m : Relocation) → k < count → slice_get forwarding.moves.items k ≡ Some m
-      → ObjectMoves phase (nat_lt k front) (goes forwarding) s (word_numbered words) m
 
 -- words are put behind those that are there
 pub record Extends (old new : List ℕ) (count : ℕ) : Type 0 where

@@ -1,44 +1,31 @@
 //! The copying collection.
 //!
-//! All that is to stay is copied out of the heap before the first change. So want of memory leaves heap and registers
-//! as they were, at whatever moment it comes, and what is left then takes none.
+//! All memory is taken before the first change. So want of memory leaves heap and registers as they were, at whatever
+//! moment it comes, and what is left then takes none.
 //!
-//! Objects in registers are found before all others. So they are the first in the list of those that were found, and
-//! one number, the front, tells of each object whether a register holds it, on which its stale bit depends. The words
-//! up to the front are those of the objects in registers, each counted once, however many registers hold it. What
-//! globals refer to comes behind them, then the objects of live scions, to which records on disk refer, and then what
-//! slots do.
-ghost use Rattle.std.specs.Prelude.{◌≡◌, ℕ, ◌+◌, ◌*◌, ◌<◌, ◌≤◌, length, IfOk, OnErr};
+//! Objects in registers are found before all others. So their copies are the first, and one number tells of each copy
+//! whether a register holds its object, on which its stale bit depends: that of the words of the copies when the last
+//! register was looked at. Each is counted once there, however many registers hold it. What globals refer to comes
+//! behind them, then the objects of live scions, to which records on disk refer, and then what slots do.
+ghost use Rattle.std.specs.Prelude.{◌≡◌, ℕ, ◌+◌, ◌*◌, ◌<◌, ◌≤◌, length, None, Option, IfOk, OnErr};
 ghost use Rattle.std.specs.Vec.{vec_capacity};
+ghost use Rattle.melt_space.specs.Space.{Replaces};
 ghost use Rattle.melt_scion.specs.Heaps.{IsFormed, IsSettled};
-ghost use Rattle.melt_scion.specs.Scions.{IsTable};
+ghost use Rattle.melt_scion.specs.declared.heap.Names.{Names};
 ghost use Rattle.melt_copy.specs.Copying.{Collects, IsCopying};
-ghost use Rattle.melt_copy.specs.Copied.{AreRenamed, CopiesHeap, IsPutBack, MayRename, NumbersAre};
-ghost use Rattle.melt_copy.specs.Tracking.{goes};
-ghost use Rattle.melt_copy.specs.Visits.{CountsReached, VisitsAtMost};
+ghost use Rattle.melt_copy.specs.Copied.{AreRenamed, MayRename, NumbersAre};
+ghost use Rattle.melt_copy.specs.Evacuating.{AreCarried};
+ghost use Rattle.melt_copy.specs.Visits.{VisitsAtMost};
 
-use crate::commit::{forward_held, numbers_of, rename};
-use crate::copy::{copy_objects, move_words};
-use crate::forwarding::{Forwarding, Relocation};
-use crate::live::{LiveSet, find_front};
-use crate::scions::{find_scions, live_scions, move_scions};
+use crate::commit::{numbers_of, rename};
+use crate::forwarding::Relocation;
+use crate::names::{Renaming, take_names};
+use crate::scions::live_scions;
+use crate::to_space::ToSpace;
 use melt_model::{Journal, NoMemory, Phase, Steps};
-use melt_scion::{GhostMaps, Globals, Heap, Names, Registers};
+use melt_scion::{GhostMaps, Heap, Names, Registers};
 use std::alloc::Global;
 use std::sync::ledger::Ledger;
-
-/// What is to stand in the place of the words, the globals and the names of a heap.
-#[derive(Debug, Drop)]
-struct Copied {
-    forwarding: Forwarding,
-    words: Vec<u64>,
-    globals: Vec<u64>,
-    numbers: Vec<Option<u32>>,
-    /// The live scions.
-    live: Vec<u32>,
-    /// The words of the objects in registers.
-    held: u32,
-}
 
 /// The numbers of the objects that move, where the heap keeps names.
 pub fn numbers_for<L: Ledger>(
@@ -64,51 +51,6 @@ fn room_for_copy(alloc: Global, heap: &mut Heap) -> Result<Vec<u64>, NoMemory>
     heap.space.room_for_copy(alloc)
 }
 
-/// Copies everything that can be reached, with the marks that the phase leaves, the words of objects into `room`, which
-/// has room for all words in use. The heap and the registers stay.
-fn copy_out<L: Ledger>(
-    alloc: Global,
-    heap: &Heap,
-    room: Vec<u64>,
-    held: &[Registers],
-    phase: Phase,
-    steps: &mut Steps<L>,
-) -> Result<Copied, NoMemory>
-    requires room { heap.now.space.used ≤ vec_capacity room }
-    requires formed { IsFormed heap.now held.now }
-    ensures copies { IfOk result (CopiesHeap phase heap.now held.now) }
-    ensures visits { (objects : ℕ) → CountsReached heap.now held.now objects
-        → steps.new ≤ steps.old + 17 * length held.now + length heap.now.globals
-        + 2 * length heap.now.scions.live + 3 * objects }
-{
-    let LiveSet {
-        mut forwarding,
-        front,
-        held_words,
-    } = find_front(alloc, heap, held, steps)?;
-    let mut globals = Vec::with_capacity(alloc, heap.globals.items.len())?;
-    move_words(
-        &mut globals,
-        &mut forwarding,
-        &heap.space,
-        phase,
-        &heap.globals.items,
-        steps,
-    )?;
-    let live = live_scions(alloc, &heap.scions, steps)?;
-    find_scions(&mut forwarding, &heap.space, &heap.scions, &live, steps)?;
-    let words = copy_objects(room, &mut forwarding, &heap.space, phase, front, steps)?;
-    let numbers = numbers_for(alloc, &heap.names, &forwarding.moves, steps)?;
-    Ok(Copied {
-        forwarding,
-        words,
-        globals,
-        numbers,
-        live,
-        held: held_words,
-    })
-}
-
 /// Gives the objects that moved their numbers at their new addresses, where the heap keeps names, and else to contracts
 /// alone.
 pub fn rename_all<L: Ledger>(
@@ -129,37 +71,32 @@ pub fn rename_all<L: Ledger>(
     }
 }
 
-/// Puts what was copied into the place of what was there.
-fn put_back<L: Ledger>(
-    heap: &mut Heap,
-    held: &mut [Registers],
-    copied: Copied,
-    steps: &mut Steps<L>,
-)
-    requires fits { length copied.words.items ≤ length heap.old.space.list }
-    requires nothing { goes copied.forwarding 0 ≡ 0 }
-    requires live { copied.live.items ≡ heap.old.scions.live }
-    requires table { IsTable heap.old.scions }
-    requires names { MayRename heap.old.space.used heap.old.names copied.forwarding.moves.items copied.numbers.items }
-    ensures put { IsPutBack heap.old heap.new held.old held.new copied }
-    ensures visits { steps.new ≤ steps.old + 17 * length held.old + length copied.live.items
-        + length copied.forwarding.moves.items }
+/// Puts the copies into the place of what was there, and gives the heap its names again.
+fn put_back(heap: &mut Heap, to: ToSpace)
+    requires fits { length to.words.items ≤ length heap.old.space.list }
+    requires taken { heap.old.names ≡ None }
+    ensures space { Replaces heap.old.space heap.new.space to.words.items }
+    ensures names { (names : Option Names) → AreCarried names to.names to.moves
+        → AreRenamed names heap.old.maps heap.new.names heap.new.maps to.moves }
+    ensures globals { heap.new.globals ≡ heap.old.globals }
+    ensures scions { heap.new.scions ≡ heap.old.scions }
+    ensures forward { heap.new.forward ≡ heap.old.forward }
 {
-    let used = heap.space.used();
-    heap.space.replace(copied.words);
-    heap.globals = Globals {
-        items: copied.globals,
-    };
-    forward_held(&copied.forwarding, held, steps);
-    move_scions(&copied.forwarding, &mut heap.scions, &copied.live, steps);
-    rename_all(
-        &mut heap.names,
-        &mut heap.maps,
-        used,
-        &copied.forwarding.moves,
-        &copied.numbers,
-        steps,
-    );
+    let ToSpace {
+        words,
+        moves,
+        names,
+    } = to;
+    heap.space.replace(words);
+    match names {
+        Some(Renaming { names, moved }) => {
+            heap.names = Some(Names {
+                addresses: moved,
+                homes: names.homes,
+            });
+        }
+        None => heap.maps = GhostMaps::pick(&(&heap.maps, &moves)),
+    }
 }
 
 /// Collects a heap: the objects that registers, globals and live scions reach stay in use, packed from word 1 on, and
@@ -185,12 +122,18 @@ pub fn collect_copy<L: Ledger>(
     ensures visits { VisitsAtMost 4 heap.old held.old steps.old steps.new }
 {
     let room = room_for_copy(alloc, heap)?;
-    let copied = copy_out(alloc, heap, room, held, phase, steps)?;
-    let held_words = copied.held;
-    put_back(heap, held, copied, steps);
+    let live = live_scions(alloc, &heap.scions, steps)?;
+    let names = take_names(alloc, &mut heap.names, heap.space.words())?;
+    let mut to = ToSpace::new(room, names);
+    to.evacuate_held(&mut heap.space, held, steps);
+    let held_words = to.words.len();
+    to.move_globals(&mut heap.space, phase, &mut heap.globals.items, steps);
+    to.evacuate_scions(&mut heap.space, &mut heap.scions, &live, steps);
+    to.scan(&mut heap.space, phase, held_words, steps);
+    put_back(heap, to);
     Ok(Journal {
         phase,
-        held: held_words,
+        held: held_words as u32,
         live: heap.space.used(),
         bodies: 0,
         stubs: 0,

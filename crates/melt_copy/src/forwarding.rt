@@ -13,16 +13,13 @@
 //! entries are half as much memory to clear for each collection.
 ghost use Rattle.std.specs.Prelude.{◌≡◌, ◌≢◌, ℕ, ◌+◌, ◌/◌, ◌^◌, ◌<◌, ◌≤◌, ◌⊎◌, [], slice_get, slice_index, length};
 ghost use Rattle.std.specs.Prelude.{replicate, Some, IfOk, OnOk};
-ghost use Rattle.melt_word.specs.Words.{IsAddress, IsRef};
 ghost use Rattle.melt_scion.specs.State.{State, RefersTo};
 ghost use Rattle.melt_copy.specs.declared.forwarding.Relocation.{Relocation};
-ghost use Rattle.melt_scion.specs.Moves.{kept_tag};
-ghost use Rattle.melt_copy.specs.Moving.{WordMoves};
 ghost use Rattle.melt_copy.specs.Tracking.{Grows, Tracks, TracksAt, TracksFor, entry_of, goes, target_of};
 
-use melt_model::{NoMemory, Phase};
+use melt_model::NoMemory;
 use melt_space::Space;
-use melt_word::{Ref, Shape, cost, encode_ref, reference_of};
+use melt_word::{Ref, Shape, cost, reference_of};
 use std::alloc::Global;
 
 /// An object that was found: its address, the address that it gets, and its shape.
@@ -62,18 +59,6 @@ fn target(entry: u32, address: u32) -> u32
         entry / 2
     } else {
         0
-    }
-}
-
-/// A clean reference to an address, as a collection of the phase leaves it.
-fn tagged(phase: Phase, address: u32) -> Ref
-    requires { IsAddress address }
-    ensures value { result ≡ kept_tag phase address }
-    ensures in_range { IsRef result }
-{
-    match phase {
-        Phase::Inactive => Ref::Clean(address),
-        Phase::Mark | Phase::Move => Ref::Stale(address),
     }
 }
 
@@ -140,20 +125,5 @@ impl Forwarding {
             self.find(space, address)?;
         }
         Ok(())
-    }
-
-    /// The word of a reference after the move. Finds the object to which it refers.
-    #[inline(always)]
-    pub fn move_word(&mut self, space: &Space, phase: Phase, word: u64) -> Result<u64, NoMemory>
-        requires { (s : State) × TracksFor space.now s self.old word }
-        ensures moves { IfOk result (WordMoves phase (goes self.new) word) }
-        ensures grows { Grows self.old self.new }
-        ensures tracks { (s : State) → TracksFor space.now s self.old word → Tracks space.now s self.new }
-    {
-        match reference_of(word) {
-            Ref::Clean(address) => Ok(encode_ref(tagged(phase, self.find(space, address)?))),
-            Ref::Stale(address) => Ok(encode_ref(Ref::Stale(self.find(space, address)?))),
-            Ref::Null | Ref::Disk(_) => Ok(word),
-        }
     }
 }

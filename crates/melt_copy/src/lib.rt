@@ -1,8 +1,9 @@
 //! Copying collections: what registers and globals reach stays, packed from word 1 on, and all else is gone.
 //!
-//! A collection has two halves. The first copies out what is to stay, and may fail for want of memory; `copy` finds the
-//! objects and copies them, and `forwarding` knows where each of them goes. The second puts the copy in the place of
-//! what was there, and cannot fail; `commit` changes the registers and the names. `collect` joins the two.
+//! A collection has two halves. The first takes all memory, and may fail for want of it. The second cannot fail: `to_space`
+//! copies what is reached, object by object, and changes globals, registers and scions; `collect` joins the two, and puts
+//! the copy in the place of what was there. A collection that moves objects to a disk finds all before it decides which of
+//! them leave: `live` finds them and copies nothing, and `forwarding` knows where each of them goes.
 #![tactic(auto)]
 
 pub mod collect;
@@ -10,8 +11,10 @@ pub mod commit;
 pub mod copy;
 pub mod forwarding;
 pub mod live;
+pub mod names;
 mod scions;
 pub mod settling;
+pub mod to_space;
 
 pub use collect::{collect_copy, numbers_for, rename_all};
 pub use commit::forward_held;

@@ -5,7 +5,7 @@
 ghost use Rattle.std.specs.Prelude.{◌≡◌, ℕ, ◌+◌, ◌≤◌, length, IfOk, OnOk};
 ghost use Rattle.melt_scion.specs.Scions.{IsTable};
 ghost use Rattle.melt_scion.specs.State.{State};
-ghost use Rattle.melt_copy.specs.Tracking.{FindsScions, Grows, MovesScions, Tracks, TracksScions, goes};
+ghost use Rattle.melt_copy.specs.Tracking.{FindsScions, Grows, Tracks, TracksScions};
 
 use crate::forwarding::Forwarding;
 use melt_model::{NoMemory, Steps};
@@ -58,24 +58,4 @@ pub fn find_scions<L: Ledger>(
         }
     }
     Ok(())
-}
-
-/// Gives the live scions, which are those of the list, the new addresses of their objects.
-pub fn move_scions<L: Ledger>(
-    forwarding: &Forwarding,
-    scions: &mut ScionTable,
-    live: &[u32],
-    steps: &mut Steps<L>,
-)
-    requires live { live.now ≡ scions.old.live }
-    requires table { IsTable scions.old }
-    ensures moves { MovesScions (goes forwarding.now) scions.old scions.new }
-    ensures visits { steps.new ≡ steps.old + length live.now }
-{
-    for scion in live {
-        steps.tick();
-        if let Some((_, address)) = scions.get(*scion) {
-            scions.set_address(*scion, forwarding.forwarded(address));
-        }
-    }
 }

@@ -168,6 +168,13 @@ stop_dropped w x t mode drops = elim (drop_cases w x t mode drops) [
   | inr goes ↦ ap (λ (y : View). y.stop) goes.1
 ]
 
+-- and so are the calls in flight
+pub calls_dropped : (w x : View) (t : ℕ) (mode : Mode) → DropsIfEnded w x t mode → x.calls ≡ w.calls
+calls_dropped w x t mode drops = elim (drop_cases w x t mode drops) [
+  | inl ended ↦ ap (λ (y : View). y.calls) ended.1.only
+  | inr goes ↦ ap (λ (y : View). y.calls) goes.1
+]
+
 -- what an event is that leaves the stop word, of a thread that waits for nothing behind it
 pub stop_same : (v w : View) (after : ThreadState) → w.stop ≡ v.stop → (Waits after.mode → ⊥)
     → (after.mode ≡ Asked → ⊥) → SetsStop v w after

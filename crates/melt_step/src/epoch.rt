@@ -173,8 +173,9 @@ fn give_all<R: RecordReader, const STORED: usize>(
     let every = run.every;
     let core = &mut run.machine.core;
     let state = &mut run.states[thread as usize];
+    let mut next = None;
     while state.can_go() {
-        make_events(core, state, thread, every, end, reader);
+        next = make_events(core, state, thread, next, every, end, reader);
     }
 }
 

@@ -1,5 +1,6 @@
 //! The text of a report.
-ghost use Rattle.std.specs.Prelude.{◌≡◌, ◌≤◌, ◌%◌, ◌^◌, [], ◌++◌, ◌∷◌, IfOk, OnOk};
+ghost use Rattle.std.specs.Prelude.{◌≡◌, ◌≤◌, ◌+◌, ◌*◌, ◌%◌, ◌^◌, [], ◌++◌, ◌∷◌, length, vec_capacity, vec_len};
+ghost use Rattle.std.specs.Prelude.{IfOk, OnOk};
 ghost use Rattle.std.specs.List.{flat_map, sum_by};
 ghost use Rattle.melt_model.specs.History.{made};
 ghost use Rattle.melt_top.specs.Text.{with_digits, number_in, reply_line, sum_lines, reply_lines, end_line, halt_line};
@@ -11,6 +12,13 @@ use melt_model::{Act, Entry, Halt, NoMemory, Reply, Report, Slot, ThreadEnd, Thr
 use melt_stats::table;
 use melt_trace::push_line;
 use std::alloc::Global;
+use std::mem;
+
+/// How many replies are written in one go: room for them is looked for once.
+const CHUNK: usize = 1024;
+
+/// The most bytes that the line of a reply has: 20 digits, and the end of the line.
+const MAX_LINE: usize = 21;
 
 /// Which texts of a run are written.
 #[derive(Clone, Copy, Debug, PartialEq, Eq)]
@@ -33,39 +41,67 @@ fn push_numbered(out: &mut Vec<u8>, word: &[u8], number: u64) -> Result<(), NoMe
     Ok(())
 }
 
-fn push_number_line(out: &mut Vec<u8>, number: u64) -> Result<(), NoMemory>
-    ensures { OnOk result (out.new.items ≡ out.old.items ++ (with_digits [] number ++ 10 ∷ [])) }
-{
-    push_numbered(out, b"", number)?;
-    out.push(b'\n')?;
-    Ok(())
-}
-
-/// Adds a word that is known where it is added. Its room is looked for once, and its bytes stand in the code.
+/// Adds bytes for which there is room.
+// (inlined, so that those of a word stand in the code)
 #[inline(always)]
-fn push_word<const N: usize>(out: &mut Vec<u8>, word: &[u8; N]) -> Result<(), NoMemory>
-    ensures { OnOk result (out.new.items ≡ out.old.items ++ word.now) }
+fn push_bytes(out: &mut Vec<u8>, bytes: &[u8])
+    requires { vec_len out.old + length bytes.now ≤ vec_capacity out.old }
+    ensures items { out.new.items ≡ out.old.items ++ bytes.now }
+    ensures capacity { vec_capacity out.new ≡ vec_capacity out.old }
 {
-    out.reserve(N)?;
-    for byte in word {
+    for byte in bytes {
         out.push_reserved(*byte);
     }
-    Ok(())
 }
 
-fn push_reply(out: &mut Vec<u8>, reply: Reply) -> Result<(), NoMemory>
-    ensures { OnOk result (out.new.items ≡ out.old.items ++ reply_line reply) }
+/// Adds the line of a number, for which there is room.
+// (inlined, so that the place of the text is not written to memory)
+#[inline(always)]
+fn push_number_line(out: &mut Vec<u8>, number: u64)
+    requires { vec_len out.old + MAX_LINE ≤ vec_capacity out.old }
+    ensures items { out.new.items ≡ out.old.items ++ (with_digits [] number ++ 10 ∷ []) }
+    ensures within { vec_len out.new ≤ vec_len out.old + MAX_LINE }
+    ensures capacity { vec_capacity out.new ≡ vec_capacity out.old }
+{
+    let mut buffer = Buffer::new();
+    push_bytes(out, buffer.format(number).as_bytes());
+    out.push_reserved(b'\n');
+}
+
+/// Adds the line of a reply, for which there is room.
+// (inlined for the same reason)
+#[inline(always)]
+fn push_reply(out: &mut Vec<u8>, reply: Reply)
+    requires { vec_len out.old + MAX_LINE ≤ vec_capacity out.old }
+    ensures items { out.new.items ≡ out.old.items ++ reply_line reply }
+    ensures within { vec_len out.new ≤ vec_len out.old + MAX_LINE }
+    ensures capacity { vec_capacity out.new ≡ vec_capacity out.old }
 {
     match reply {
-        Reply::Done => push_word(out, b"ok\n"),
-        Reply::Null => push_word(out, b"null\n"),
-        Reply::Ref => push_word(out, b"ref\n"),
+        Reply::Done => push_bytes(out, b"ok\n"),
+        Reply::Null => push_bytes(out, b"null\n"),
+        Reply::Ref => push_bytes(out, b"ref\n"),
         Reply::Num(number) => push_number_line(out, number),
-        Reply::Yes => push_word(out, b"yes\n"),
-        Reply::No => push_word(out, b"no\n"),
-        Reply::Nil => push_word(out, b"nil\n"),
-        Reply::Range => push_word(out, b"range\n"),
+        Reply::Yes => push_bytes(out, b"yes\n"),
+        Reply::No => push_bytes(out, b"no\n"),
+        Reply::Nil => push_bytes(out, b"nil\n"),
+        Reply::Range => push_bytes(out, b"range\n"),
     }
+}
+
+/// Adds the lines of replies to a text that has room for them.
+// (the text is owned, since the place of one that is behind a reference is read again behind each byte; and the replies
+// are taken from the front, since the place of one that is counted is computed anew each time)
+fn with_lines(mut text: Vec<u8>, replies: &[Reply]) -> Vec<u8>
+    requires { vec_len text + MAX_LINE * length replies.now ≤ vec_capacity text }
+    ensures { result.items ≡ text.items ++ flat_map reply_line replies.now }
+{
+    let mut rest = replies;
+    while let Some((reply, behind)) = rest.split_first() {
+        push_reply(&mut text, *reply);
+        rest = behind;
+    }
+    text
 }
 
 fn push_end(out: &mut Vec<u8>, end: ThreadEnd) -> Result<(), NoMemory>
@@ -100,8 +136,9 @@ fn push_halt(out: &mut Vec<u8>, halt: Halt) -> Result<(), NoMemory>
 fn push_each(out: &mut Vec<u8>, replies: &[Reply]) -> Result<(), NoMemory>
     ensures { OnOk result (out.new.items ≡ out.old.items ++ flat_map reply_line replies.now) }
 {
-    for reply in replies {
-        push_reply(out, *reply)?;
+    for chunk in replies.chunks(CHUNK) {
+        out.reserve(chunk.len() * MAX_LINE)?;
+        *out = with_lines(mem::try_take(out)?, chunk);
     }
     Ok(())
 }

@@ -1,11 +1,14 @@
 -- Where the lines and the fields of the bytes end.
 use Rattle.std.proofs.Common.{◌≡◌, ℕ, zero, suc, ◌+◌, ◌-◌, ◌<◌, ◌≤◌, Bool, true, false, cond, not, eqb, ltb, List, []}
 use Rattle.std.proofs.Common.{◌∷◌, filter, length, take, drop, get_or, Some, None, refl, sym, ap, subst, ◌∙◌, arith}
+use Rattle.std.specs.Prelude.{◌≢◌, ◌==◌, Option, slice_index}
+use Rattle.memchr.specs.Find.{IsFirstByte}
 use Rattle.std.specs.List.{slice_split, onto_first, position, position_or_len}
-use Rattle.std.proofs.lemmas.Bool.{ltb-true, ltb-false, not-true}
+use Rattle.std.proofs.lemmas.Bool.{ltb-true, ltb-false, not-true, lt-ltb, le-ltb, cond-true, cond-false, eq-eqb, ne_eqb}
+use Rattle.std.proofs.lemmas.Bool.{false_from_ne_true, false≢true}
 use Rattle.std.proofs.lemmas.List.{take_rest, drop_all}
 use Rattle.std.proofs.lemmas.Option.{cond_some, none-some}
-use Rattle.std.proofs.lemmas.List.Sums.{fails_before_first}
+use Rattle.std.proofs.lemmas.List.Sums.{fails_before_first, position_or_len_is}
 use Rattle.std.proofs.lemmas.List.Splits.{slice_split_first, slice_split_none}
 use Rattle.std.proofs.lemmas.List.Quantifiers.{position-Some}
 use Rattle.melt_trace.specs.Language.{without_empty_rest, lines_of, is_empty, fields_of}
@@ -161,3 +164,64 @@ no_field bytes e =
     sym (spaces (length bytes) bytes (λ k high. let lt : k < position_or_len p bytes = omega arith in
     fails_before_first p bytes k 0 lt))
     ∙ ap fields_of (drop_all (length bytes) bytes (omega arith))
+
+-- where the first byte that passes a test stands
+pub first_byte : (test : ℕ → Bool) (bytes : List ℕ) (r : Option ℕ) → IsFirstByte test bytes r → r ≡ position test bytes
+first_byte test bytes None is =
+    let at : position_or_len test bytes ≡ length bytes =
+    position_or_len_is test bytes (length bytes) 0 (omega arith)
+    (λ k below. false_from_ne_true (test (slice_index bytes k)) (is k (omega arith) below))
+    (λ below. absurd (omega (arith, below))) in
+    sym (ap (λ (n : ℕ). cond (ltb n (length bytes)) (Some n) None) at
+    ∙ cond-false (ltb (length bytes) (length bytes)) (Some (length bytes)) None
+    (le-ltb (length bytes) (length bytes) (omega arith)))
+first_byte test bytes (Some k) is =
+    let within : k < length bytes = is.0.high in
+    let at : position_or_len test bytes ≡ k =
+    position_or_len_is test bytes k 0 (omega (arith, within))
+    (λ j below. false_from_ne_true (test (slice_index bytes j)) (is.0.before j (omega arith) below)) (λ _. is.1) in
+    sym (ap (λ (n : ℕ). cond (ltb n (length bytes)) (Some n) None) at
+    ∙ cond-true (ltb k (length bytes)) (Some k) None (lt-ltb k (length bytes) within))
+
+module _ (bytes : List ℕ) (byte k : ℕ) (within : k < length bytes) where
+  -- the first byte that is another one
+  pub first_other : ((j : ℕ) → j < k → slice_index bytes j ≡ byte) → slice_index bytes k ≢ byte
+      → Some k ≡ position (λ b. not (b == byte)) bytes
+  first_other before here =
+      first_byte (λ b. not (b == byte)) bytes (Some k) (
+        record {
+          low = omega arith;
+          high = within;
+          before = λ j _ below passes.
+              false≢true (sym (ap not (eq-eqb (slice_index bytes j) byte (before j below))) ∙ passes);
+        },
+        ap not (ne_eqb (slice_index bytes k) byte here),
+      )
+
+  -- and the first that is this one
+  pub first_same : ((j : ℕ) → j < k → slice_index bytes j ≢ byte) → slice_index bytes k ≡ byte
+      → Some k ≡ position (λ b. b == byte) bytes
+  first_same before here =
+      first_byte (λ b. b == byte) bytes (Some k) (
+        record {
+          low = omega arith;
+          high = within;
+          before = λ j _ below passes.
+              false≢true (sym (ne_eqb (slice_index bytes j) byte (before j below)) ∙ passes);
+        },
+        eq-eqb (slice_index bytes k) byte here,
+      )
+
+-- there may be no other one
+pub no_other : (bytes : List ℕ) (byte : ℕ) → ((j : ℕ) → j < length bytes → slice_index bytes j ≡ byte)
+    → None ≡ position (λ b. not (b == byte)) bytes
+no_other bytes byte all =
+    first_byte (λ b. not (b == byte)) bytes None
+    (λ j _ below passes. false≢true (sym (ap not (eq-eqb (slice_index bytes j) byte (all j below))) ∙ passes))
+
+-- nor this one
+pub none_same : (bytes : List ℕ) (byte : ℕ) → ((j : ℕ) → j < length bytes → slice_index bytes j ≢ byte)
+    → None ≡ position (λ b. b == byte) bytes
+none_same bytes byte none =
+    first_byte (λ b. b == byte) bytes None
+    (λ j _ below passes. false≢true (sym (ne_eqb (slice_index bytes j) byte (none j below)) ∙ passes))

@@ -1,5 +1,5 @@
 -- What the words of a heap space hold: each word is a function of the value that it stands for.
-use Rattle.std.specs.Prelude.{ℕ, ◌+◌, ◌*◌, ◌/◌, ◌%◌, ◌^◌, ◌<◌, ◌≤◌, Bool, true, false, Option, None, Some}
+use Rattle.std.specs.Prelude.{◌≡◌, ◌⊎◌, ℕ, ◌+◌, ◌*◌, ◌/◌, ◌%◌, ◌^◌, ◌<◌, ◌≤◌, Bool, true, false, Option, None, Some}
 use Rattle.melt_word.specs.declared.reference.Ref.{Ref}
 use Rattle.melt_word.specs.declared.reference.Ref.TheVariants.{Null, Clean, Stale, Disk}
 use Rattle.melt_word.specs.declared.header.Shape.{Shape}
@@ -43,6 +43,11 @@ bit true = 1
 -- a byte with the lowest bit set and the stale bit beside it, a byte for each part of the shape
 abbrev pub header_word : Header → ℕ
 header_word header = 1 + 2 * bit header.stale + 256 * header.shape.refs + 65536 * header.shape.nums
+
+-- what stands in the place of a header while objects move: the header still, or a clean reference to the copy
+abbrev pub StandsAsHeader : ℕ → Type 0
+StandsAsHeader word = ((h : Header) × IsHeader h × (word ≡ header_word h))
+    ⊎ ((address : ℕ) × IsAddress address × (word ≡ ref_word (Clean address)))
 
 pub record IsHomeAndScion (word : HomeWord) : Type 0 where
   pub home : IsDiskHome word.home

@@ -11,7 +11,8 @@ pub use header::{
 pub use home::{BadHome, HomeWord, MAX_SCION, decode_home, encode_home, one_home_per_word};
 pub use melt_model::MAX_PARTS;
 pub use reference::{
-    BadWord, MAX_ADDRESS, Ref, decode_ref, encode_ref, held_word, one_ref_per_word, reference_of,
+    BadWord, MAX_ADDRESS, Ref, decode_ref, encode_ref, forwarded_to, held_word, one_ref_per_word,
+    reference_of,
 };
 
 #[cfg(test)]

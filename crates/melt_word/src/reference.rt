@@ -1,7 +1,9 @@
 //! References: words with a number and a tag of two bits.
-ghost use Rattle.std.specs.Prelude.{◌≡◌, ◌≢◌, ◌+◌, ◌*◌, ◌^◌, ◌<◌, ◌↔◌, IsTrue, IfOk, OnErr};
-ghost use Rattle.melt_word.specs.Words.{IsAddress, IsDiskHome, IsRef, ref_word};
+ghost use Rattle.std.specs.Prelude.{◌≡◌, ◌≢◌, ℕ, ◌+◌, ◌*◌, ◌^◌, ◌<◌, ◌↔◌, IsTrue, IfOk, OnErr, None, Some};
+ghost use Rattle.melt_word.specs.Words.{IsAddress, IsDiskHome, StandsAsHeader, IsHeader, IsRef, header_word, ref_word};
+ghost use Rattle.melt_word.specs.declared.header.Header.{Header};
 ghost use Rattle.melt_word.specs.declared.reference.Ref.{Ref};
+ghost use Rattle.melt_word.specs.declared.reference.Ref.TheVariants.{Clean};
 
 use thiserror::Error;
 
@@ -17,6 +19,9 @@ const CLEAN: u64 = 0;
 const STALE: u64 = 1;
 
 const DISK: u64 = 3;
+
+/// The bit that the word of each header has set.
+const HEADER: u64 = 1;
 
 /// What a reference slot of a space refers to.
 #[derive(Clone, Copy, Debug, PartialEq, Eq)]
@@ -113,6 +118,22 @@ pub fn reference_of(word: u64) -> Ref
         CLEAN => Ref::Clean(number),
         STALE => Ref::Stale(number),
         _ => Ref::Disk(number),
+    }
+}
+
+/// The address to which an object has moved, where a clean reference to its copy stands in the place of its header; or
+/// `None`, where the header stands there still. Nothing is tested but the lowest bit, which each header has set and no
+/// clean reference has.
+#[inline(always)]
+pub fn forwarded_to(word: u64) -> Option<u32>
+    requires { StandsAsHeader word }
+    ensures stays { (h : Header) → IsHeader h → word ≡ header_word h → result ≡ None }
+    ensures moves { (address : ℕ) → IsAddress address → word ≡ ref_word (Clean address) → result ≡ Some address }
+{
+    if word & HEADER == 0 {
+        Some((word >> TAG_BITS) as u32)
+    } else {
+        None
     }
 }
 

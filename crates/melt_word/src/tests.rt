@@ -43,6 +43,11 @@ fn words_of_headers(rt: HostRuntime) {
     let largest = encode_header(Header { shape, stale: true });
     assert_eq!(rt; largest, 4_079_107);
     assert_eq!(rt; shape_of(largest), shape);
+    assert_eq!(rt; forwarded_to(largest), None);
+    assert_eq!(rt;
+        forwarded_to(encode_ref(Ref::Clean(MAX_ADDRESS))),
+        Some(MAX_ADDRESS)
+    );
 }
 
 #[test]

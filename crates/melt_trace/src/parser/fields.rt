@@ -21,14 +21,22 @@ pub enum Arguments<'a> {
 pub fn is_printable_line(bytes: &[u8]) -> bool
     ensures { result ≡ list_all is_printable bytes.now }
 {
-    bytes.iter().all(|b| (32..=126).contains(b))
+    // (each byte is looked at, so that many are at once)
+    bytes
+        .iter()
+        .fold(true, |all, b| all & (32..=126).contains(b))
 }
 
 /// Where the first byte that is no space stands.
 fn start(bytes: &[u8]) -> Option<usize>
     ensures { result ≡ position (λ b. not (b == 32)) bytes.now }
 {
-    bytes.iter().position(|b| *b != b' ')
+    for (place, byte) in bytes.iter().enumerate() {
+        if *byte != b' ' {
+            return Some(place);
+        }
+    }
+    None
 }
 
 /// The first field, and what stands behind it.

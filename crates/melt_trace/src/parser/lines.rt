@@ -2,11 +2,18 @@
 ghost use Rattle.std.specs.Prelude.{◌≡◌, ◌==◌, ◌<◌, ◌∷◌, length, position};
 ghost use Rattle.melt_trace.specs.Language.{lines_of};
 
+use memchr::memchr;
+
 /// Where the first byte of this value stands.
 pub fn place(bytes: &[u8], byte: u8) -> Option<usize>
     ensures { result ≡ position (λ b. b == byte) bytes.now }
 {
-    bytes.iter().position(|b| *b == byte)
+    for (place, other) in bytes.iter().enumerate() {
+        if *other == byte {
+            return Some(place);
+        }
+    }
+    None
 }
 
 /// The first line, where there is a byte, and what stands behind it.
@@ -15,7 +22,8 @@ pub fn next_line(bytes: &[u8]) -> (&[u8], &[u8])
     ensures line { lines_of bytes.now ≡ result.0.now ∷ lines_of result.1.now }
     ensures shorter { length result.1.now < length bytes.now }
 {
-    match place(bytes, b'\n') {
+    // (other than a field, a line is mostly long enough to look at many bytes at once)
+    match memchr(b'\n', bytes) {
         Some(end) => (&bytes[..end], &bytes[end + 1..]),
         None => (bytes, &bytes[bytes.len()..]),
     }

@@ -1,7 +1,7 @@
 -- A step of the thread is one of the run: its state stands in the place of the one with which it began.
 use Rattle.std.proofs.Common.{◌≡◌, ◌<◌, ◌≤◌, ℕ, List, length, refl, sym, ◌∙◌, subst, arith}
 use Rattle.std.proofs.lemmas.Option.{slice_get-get_or}
-use Rattle.std.specs.Prelude.{Option, Some, slice_get, slice_index_or, slice_set}
+use Rattle.std.specs.Prelude.{Some, slice_get, slice_index_or, slice_set}
 use Rattle.melt_core.specs.Views.{View, view}
 use Rattle.melt_core.proofs.Staged.{set_twice}
 use Rattle.melt_safepoint.specs.declared.thread.ThreadState.{ThreadState}
@@ -25,8 +25,8 @@ here : (xs : List ThreadState) (t : ℕ) (first s : ThreadState) → t < length 
 here xs t first s within =
     get_set_same xs t (slice_index_or xs t first) s (slice_get-get_or xs t first within)
 
-pub make_events-requires-clause-ready : goal.make_events-requires-clause-ready
-make_events-requires-clause-ready g c =
+pub make_events-next-requires-clause-ready : goal.make_events-next-requires-clause-ready
+make_events-next-requires-clause-ready g c =
     let v : View = view c.loop-core.core in
     let s : ThreadState = c.loop-core.state in
     let states : List ThreadState = states_at c.args.run.now c.args.thread s in
@@ -39,9 +39,9 @@ make_events-requires-clause-ready g c =
 pub loop-core-smaller : goal.loop-core-smaller
 loop-core-smaller g c =
     let v : View = view c.loop-core.core in
-    let w : View = view c.make_events.new.core in
+    let w : View = view c.make_events-next.new.core in
     let s : ThreadState = c.loop-core.state in
-    let after : ThreadState = c.make_events.new.state in
+    let after : ThreadState = c.make_events-next.new.state in
     let xs : List ThreadState = c.args.run.now.states.items in
     let goes : MayGo s.mode = c.can_go.ensures.0 c.loop-core-test.true in
     let stands = some_on c.args.end _ (row_of core_view c.args.run.now) (row_at c.args.run.now c.args.thread v s)
@@ -49,14 +49,14 @@ loop-core-smaller g c =
     subst (λ (states : List ThreadState). potential states w.calls
     < potential (states_at c.args.run.now c.args.thread s) v.calls) (set_twice xs c.args.thread s after)
     (step_less _ w c.args.thread after stands.3.3 stands.1
-    (here xs c.args.thread c.index_mut-state.result.now s c.requires.there) goes c.make_events.ensures.step)
+    (here xs c.args.thread c.index_mut-state.result.now s c.requires.there) goes c.make_events-next.ensures.step)
 
 pub loop-core-preserved : goal.loop-core-preserved
 loop-core-preserved g c =
     let v : View = view c.loop-core.core in
-    let w : View = view c.make_events.new.core in
+    let w : View = view c.make_events-next.new.core in
     let s : ThreadState = c.loop-core.state in
-    let after : ThreadState = c.make_events.new.state in
+    let after : ThreadState = c.make_events-next.new.state in
     let t : ℕ = c.args.thread in
     let xs : List ThreadState = c.args.run.now.states.items in
     let states : List ThreadState = states_at c.args.run.now t s in
@@ -69,23 +69,24 @@ loop-core-preserved g c =
     let stands = some_on c.args.end _ (row_of core_view c.args.run.now) old c.requires.stands had.keeps in
     let less : to_do (slice_set xs t after) ≤ to_do states =
     subst (λ (ys : List ThreadState). to_do ys ≤ to_do states) same
-    (step_to_do _ w t after stands.3.3 stands.1 at goes c.make_events.ensures.step) in
+    (step_to_do _ w t after stands.3.3 stands.1 at goes c.make_events-next.ensures.step) in
     let nearer : potential (slice_set xs t after) w.calls < potential states v.calls =
     subst (λ (ys : List ThreadState). potential ys w.calls < potential states v.calls) same
-    (step_less _ w t after stands.3.3 stands.1 at goes c.make_events.ensures.step) in
+    (step_less _ w t after stands.3.3 stands.1 at goes c.make_events-next.ensures.step) in
     record {
       keeps = λ shown ends shows told script config runs.
-          step_keeps old new t after at goes c.make_events.ensures.step (sym same) c.make_events.ensures.due
-          c.make_events.ensures.makes refl refl refl refl shown ends (shows ∙ sym had.image) told script config
+          step_keeps old new t after at goes c.make_events-next.ensures.step (sym same) c.make_events-next.ensures.due
+          c.make_events-next.ensures.makes refl refl refl refl shown ends (shows ∙ sym had.image) told script config
           (had.keeps shown ends shows told script config runs);
-      stop = subst (KnowsStop w) same (stop_known v w states t s after had.stop at goes c.make_events.ensures.stop);
-      stored = capacity_stores v w (step_capacity _ w t after stands.3.3 stands.1 c.make_events.ensures.step)
+      next = c.make_events-next.ensures.next;
+      stop = subst (KnowsStop w) same (stop_known v w states t s after had.stop at goes c.make_events-next.ensures.stop);
+      stored = capacity_stores v w (step_capacity _ w t after stands.3.3 stands.1 c.make_events-next.ensures.step)
           ∙ had.stored;
       less = omega (arith, less, had.less);
       nearer = omega (arith, nearer, had.nearer);
-      image = c.make_events.ensures.image ∙ had.image;
+      image = c.make_events-next.ensures.image ∙ had.image;
       lost = counts_then xs states (slice_set xs t after) _ _ _ had.lost
           (subst (λ (ys : List ThreadState). CountsLosses states ys (g.R.RecordReader.faults c.loop-core.reader)
-          (g.R.RecordReader.faults c.make_events.new.reader)) same
-          (counts_set states t s after _ _ at c.make_events.ensures.lost));
+          (g.R.RecordReader.faults c.make_events-next.new.reader)) same
+          (counts_set states t s after _ _ at c.make_events-next.ensures.lost));
     }

@@ -1,7 +1,7 @@
 -- What stood at the beginning stands on, over the same words, and nothing or less is to do. Core and state are taken out
 -- of the run, which has them back behind the loop.
 use Rattle.std.proofs.Common.{◌≡◌, ◌≤◌, ℕ, List}
-use Rattle.std.specs.Prelude.{slice_set}
+use Rattle.std.specs.Prelude.{IfSome, slice_set}
 use Rattle.melt_core.specs.Views.{View, stores, view}
 use Rattle.melt_safepoint.specs.declared.run.Run.{Run}
 use Rattle.melt_safepoint.specs.declared.thread.ThreadState.{ThreadState}
@@ -9,7 +9,7 @@ use Rattle.melt_safepoint.specs.Shown.{Shown}
 use Rattle.melt_safepoint.specs.Losses.{CountsLosses}
 use Rattle.melt_safepoint.specs.Epochs.{to_do}
 use Rattle.melt_safepoint.specs.Rows.{Row, row_of}
-use Rattle.melt_step.specs.Going.{KeepsGoing, core_view}
+use Rattle.melt_step.specs.Going.{IsNextCall, KeepsGoing, core_view}
 use Rattle.melt_step.specs.declared.machine.Ordered.{Ordered}
 use Rattle.melt_safepoint.specs.Tables.{KnowsStop, potential}
 use Rattle.melt_step.proofs.epoch.give_all.Given as goal
@@ -29,6 +29,7 @@ abbrev pub invariant-loop-core : goal.invariant-loop-core
 invariant-loop-core g l = record {
   keeps : (shown : Shown) → shown.end ≡ l.fn.end → shown.image ≡ g.R.RecordReader.image l.fn.reader
       → KeepsGoing shown (row_of core_view l.fn.run) (row_at l.fn.run l.fn.thread (view l.core) l.state);
+  next : IfSome l.next (λ op. IsNextCall (view l.core) l.fn.thread l.state op);
   stop : KnowsStop (view l.core) (states_at l.fn.run l.fn.thread l.state);
   stored : stores (view l.core) ≡ stores (view l.fn.run.machine.core);
   less : to_do (states_at l.fn.run l.fn.thread l.state) ≤ to_do l.fn.run.states.items;

@@ -1,5 +1,5 @@
 -- What the events of the call were, where they were made in one go.
-use Rattle.std.proofs.Common.{◌≡◌, ◌<◌, Bool, false, true, length, refl, sym, ◌∙◌, ap, rules, subst}
+use Rattle.std.proofs.Common.{◌≡◌, ◌<◌, Bool, List, false, true, length, refl, sym, ◌∙◌, ap, rules, subst}
 use Rattle.std.specs.Prelude.{None, Option}
 use Rattle.melt_record.specs.declared.damage.Damaged.{Damaged as Damage}
 use Rattle.melt_scion.specs.Heaps.{OnDisk}
@@ -9,7 +9,7 @@ use Rattle.melt_core.specs.declared.answer.StepResult.TheVariants.{Answered, Goi
 use Rattle.melt_core.specs.declared.call.Call.{Call}
 use Rattle.melt_core.specs.Advances.{Advances, IsDamage, MayAdvance, Moves, MovesBy, MovesOn}
 use Rattle.melt_core.specs.Stages.{NeedsNoRead}
-use Rattle.melt_core.specs.Views.{Standing, call_of, stage_in, stage_of, view}
+use Rattle.melt_core.specs.Views.{Standing, call_in, call_of, stage_in, stage_of, view}
 use Rattle.melt_core.proofs.Disks.{moves_advance}
 use Rattle.melt_core.proofs.ReadsLeft.{no_damage, uses_nothing}
 use Rattle.melt_safepoint.specs.declared.thread.ThreadState.{ThreadState}
@@ -19,7 +19,7 @@ use Rattle.melt_safepoint.proofs.Losses.{refused_counts}
 use Rattle.melt_safepoint.proofs.WordsMade.{made_ended}
 use Rattle.melt_step.proofs.AtOnce.{LastEvent, all_made, at_once_goes, at_once_told, gone_none, last_event}
 use Rattle.melt_step.proofs.Calling.{KeepsOthers_both, begins_ready, goes_sets, refused_call, refused_sets, refused_step}
-use Rattle.melt_step.proofs.Calling.{thread_there, told_sets}
+use Rattle.melt_step.proofs.Calling.{calls_dropped, thread_there, told_sets}
 use Rattle.melt_step.proofs.events.make_events.Goals as goal
 use Rattle.melt_step.proofs.events.make_events.Goals.{After-call_at_once}
 use Rattle.melt_step.proofs.events.make_events.Given.{Over}
@@ -181,3 +181,12 @@ returns-in-Refused-clause-lost g c =
     (no_read g at) faults (g.R.RecordReader.reads c.args.reader.now) in
     subst (λ (after : ThreadState). CountsLoss c.args.state.now after faults faults) (sym c.refused.ensures.waits)
     (refused_counts c.args.state.now c.in-Refused.refusal faults faults uses.fault uses.count)
+
+pub returns-in-Answered-clause-next : goal.returns-in-Answered-clause-next
+returns-in-Answered-clause-next g c =
+    let event = here g (goal.at.returns-in-Answered-clause-next g c).After-call_at_once (Answered c.in-Answered.reply)
+    c.in-Answered.ensures in
+    c.next_op.ensures (view c.answered.new.core) c.args.thread
+    (ap (λ (calls : List (Option Call)). call_in calls c.args.thread)
+    (calls_dropped (view c.call_at_once.new.self) (view c.answered.new.core) c.args.thread c.answered.new.state.mode
+    c.answered.ensures.drops) ∙ event.event.outcome.call)
