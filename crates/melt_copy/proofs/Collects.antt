@@ -93,7 +93,7 @@ names_stay None (Some new) pairs pairs_then moves renamed = absurd renamed
 names_stay (Some old) None pairs pairs_then moves renamed = absurd renamed
 
 -- an object in other words that are the same where it stands
-other_words : {phase : Phase} {bit : Bool} (f : ℕ → ℕ) (s : State) (v w : ℕ → ℕ) (m : Relocation)
+pub other_words : {phase : Phase} {bit : Bool} (f : ℕ → ℕ) (s : State) (v w : ℕ → ℕ) (m : Relocation)
     → ((k : ℕ) → m.to ≤ k → k < m.to + cost_of m.shape → w k ≡ v k) → ObjectMoves phase bit f s v m
     → ObjectMoves phase bit f s w m
 other_words {phase} f s v w m same object = record {

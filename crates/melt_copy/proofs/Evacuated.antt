@@ -1,11 +1,10 @@
 -- An object more is copied, and a reference to the copy put into the place of its header.
 use Rattle.std.proofs.Common.{◌≡◌, ◌≢◌, ℕ, zero, suc, ◌+◌, ◌<◌, ◌≤◌, ◌^◌, List, [], ◌∷◌, ◌++◌, length, refl, sym}
-use Rattle.std.proofs.Common.{ap, ◌∙◌, subst, arith, ◌⊎◌, inl, inr, length-append}
-use Rattle.std.specs.Prelude.{◌==◌, Bool, Option, None, Some, slice_get}
-use Rattle.std.specs.Vec.{vec_capacity}
+use Rattle.std.proofs.Common.{ap, ◌∙◌, subst, arith, ◌⊎◌, inl, inr, length-append, length-drop, take, drop}
+use Rattle.std.specs.Prelude.{◌==◌, Bool, Option, None, Some, slice_get, slice_index}
 use Rattle.std.proofs.lemmas.Bool.{cases_eq, eq-eqb, ne_eqb, cond-true, cond-false}
 use Rattle.std.proofs.lemmas.Bool.Decides.{eqb_tells}
-use Rattle.std.proofs.lemmas.List.{get_or_append_left, get_or-append-add}
+use Rattle.std.proofs.lemmas.List.{get_or_append_left, get_or-append-add, get_or-take, length-take-le}
 use Rattle.melt_model.proofs.Histories.{last_place}
 use Rattle.melt_word.specs.Words.{IsHeader, header_word, ref_word, cost_of}
 use Rattle.melt_word.specs.declared.reference.Ref.TheVariants.{Clean}
@@ -51,11 +50,40 @@ place-other (x ∷ ms) m a other = elim (cases_eq x.from a) [
       ∙ (place-other ms m a other ∙ sym (cond-false (x.from == a) x.to (place_of ms a) (ne_eqb x.from a apart)))
 ]
 
--- a word that was there before others were put behind it
-pub word_in_front : (words more : List ℕ) (k : ℕ) → k ≤ length words
-    → word_numbered (words ++ more) k ≡ word_numbered words k
-word_in_front words more zero below = refl
-word_in_front words more (suc k) below = get_or_append_left words more 0 k (omega (arith, below))
+-- words put behind the first ones, so many of them, in the place of others
+abbrev pub put_behind : ℕ → List ℕ → List ℕ → List ℕ
+put_behind next words items = take next items ++ words ++ drop (next + length words) items
+
+front_size : (next : ℕ) (words items : List ℕ) → next ≤ length items
+    → length (take next items ++ words) ≡ next + length words
+front_size next words items within =
+    length-append (take next items) words ∙ ap (λ (n : ℕ). n + length words) (length-take-le next items within)
+
+put_size : (next : ℕ) (words items : List ℕ) → next + length words ≤ length items
+    → length (put_behind next words items) ≡ length items
+put_size next words items fits =
+    length-append (take next items ++ words) (drop (next + length words) items)
+    ∙ omega (arith, fits, front_size next words items (omega (arith, fits)), length-drop (next + length words) items)
+
+-- the first ones are as they were
+put_before : (next : ℕ) (words items : List ℕ) (k : ℕ) → next ≤ length items → k ≤ next
+    → word_numbered (put_behind next words items) k ≡ word_numbered items k
+put_before next words items zero within below = refl
+put_before next words items (suc k) within below =
+    get_or_append_left (take next items ++ words) (drop (next + length words) items) 0 k
+    (omega (arith, below, front_size next words items within))
+    ∙ (get_or_append_left (take next items) words 0 k (omega (arith, below, length-take-le next items within))
+    ∙ get_or-take next items k 0 (omega (arith, below)))
+
+-- and those behind them are these
+put_there : (next : ℕ) (words items : List ℕ) (i : ℕ) → next ≤ length items → i < length words
+    → word_numbered (put_behind next words items) (next + 1 + i) ≡ slice_index words i
+put_there next words items i within below =
+    word_in_at (put_behind next words items) (length (take next items)) i (next + 1 + i)
+    (omega (arith, length-take-le next items within))
+    ∙ (get_or_append_left (take next items ++ words) (drop (next + length words) items) 0 (length (take next items) + i)
+    (omega (arith, below, front_size next words items within, length-take-le next items within))
+    ∙ get_or-append-add (take next items) words i 0)
 
 -- a part that moved stays right while more is found, where its word does
 pub part_more : {c : Collection} {held : Bool} (old new : List Relocation) {m : Relocation} {i was is : ℕ}
@@ -108,14 +136,14 @@ used_below it = (omega (arith, it.whole.small, it.whole.inside, it.free), omega 
 
 -- the copies take no more words than are in use
 pub words_fit : {c : Collection} {space : SpaceWords} (to : ToSpace) {done : ℕ} → Evacuates c space to done
-    → length to.words.items ≤ space.used
+    → to.next ≤ space.used
 words_fit {c} to it =
-    let words = found_words c.state (place_of to.moves) to.moves (length to.words.items + 1) it.whole it.holds in
+    let words = found_words c.state (place_of to.moves) to.moves (to.next + 1) it.whole it.holds in
     omega (arith, words, it.holds.behind, it.free)
 
 -- the move of an object that is found next
 abbrev pub next_move : ToSpace → ℕ → Shape → Relocation
-next_move to address shape = record { from = address; to = length to.words.items + 1; shape = shape }
+next_move to address shape = record { from = address; to = to.next + 1; shape = shape }
 
 module _ {c : Collection} {space : SpaceWords} {to : ToSpace} {done address : ℕ}
     (at : EvacuatesAt c space to done address) (new : place_of to.moves address ≡ 0) where
@@ -125,7 +153,7 @@ module _ {c : Collection} {space : SpaceWords} {to : ToSpace} {done address : �
 
   fresh : (j : ℕ) (x : Relocation) → slice_get to.moves j ≡ Some x → x.from ≢ address
   fresh j x there same =
-      place_found c.state (place_of to.moves) to.moves (length to.words.items + 1) j x at.evacuates.holds there
+      place_found c.state (place_of to.moves) to.moves (to.next + 1) j x at.evacuates.holds there
       (ap (place_of to.moves) same ∙ new)
 
   -- none begins inside it
@@ -154,41 +182,44 @@ module _ {c : Collection} {space : SpaceWords} {to : ToSpace} {done address : �
       same_shape = told object.0 object.1.starts.in_range (at.evacuates.kept address new ∙ object.1.starts.word)
 
       -- where it goes
-      pub place_then : place_of (to.moves ++ next_move to address shape ∷ []) address ≡ length to.words.items + 1
+      pub place_then : place_of (to.moves ++ next_move to address shape ∷ []) address ≡ to.next + 1
       place_then = place-here to.moves (next_move to address shape) fresh
 
       holds_then : Relocates c.state (place_of (to.moves ++ next_move to address shape ∷ []))
-          (to.moves ++ next_move to address shape ∷ []) (length to.words.items + 1 + cost_of shape)
+          (to.moves ++ next_move to address shape ∷ []) (to.next + 1 + cost_of shape)
       holds_then =
           relocates_push (place_of (to.moves ++ next_move to address shape ∷ [])) (next_move to address shape)
           at.evacuates.holds at.reached object.1.starts (sym same_shape) refl new place_then
           (λ a other. place-other to.moves (next_move to address shape) a other)
 
       -- it fits
-      pub fits_then : length to.words.items + cost_of shape ≤ space.used
+      pub fits_then : to.next + cost_of shape ≤ space.used
       fits_then =
-          let words = found_words c.state _ _ (length to.words.items + 1 + cost_of shape) at.evacuates.whole holds_then in
+          let words = found_words c.state _ _ (to.next + 1 + cost_of shape) at.evacuates.whole holds_then in
           omega (arith, words, holds_then.behind, at.evacuates.free)
 
-      pub place_free : HasPlace to.names (length to.words.items + 1)
+      pub place_free : HasPlace to.names (to.next + 1)
       place_free =
-          place_for c.names to.names to.moves (length space.list) (length to.words.items + 1) at.evacuates.names
+          place_for c.names to.names to.moves (length space.list) (to.next + 1) at.evacuates.names
           at.evacuates.made (omega arith) (omega (arith, fits_then, (used_below at.evacuates).1))
 
       module _ {space' : SpaceWords} (to' : ToSpace) {words : List ℕ}
           (are : AreWords space address (cost_of shape) words)
-          (words_then : to'.words.items ≡ to.words.items ++ words)
-          (room : vec_capacity to.words ≤ vec_capacity to'.words)
+          (words_then : to'.words.items ≡ put_behind to.next words to.words.items)
+          (next : to'.next ≡ to.next + length words)
           (moves_then : to'.moves ≡ to.moves ++ next_move to address shape ∷ [])
-          (names : CarriesName to.names to'.names address (length to.words.items + 1))
-          (sets : SetsWord space space' address (ref_word (Clean (length to.words.items + 1)))) where
-        longer : length to'.words.items ≡ length to.words.items + cost_of shape
-        longer = ap length words_then ∙ (length-append to.words.items words ∙ omega (arith, are.count_is))
+          (names : CarriesName to.names to'.names address (to.next + 1))
+          (sets : SetsWord space space' address (ref_word (Clean (to.next + 1)))) where
+        longer : to'.next ≡ to.next + cost_of shape
+        longer = omega (arith, next, are.count_is)
+
+        fits : to.next + length words ≤ length to.words.items
+        fits = omega (arith, fits_then, at.evacuates.room, are.count_is)
 
         more : FindsMore to.moves to'.moves
         more = record { rest = next_move to address shape ∷ []; is = moves_then }
 
-        here : place_of to'.moves address ≡ length to.words.items + 1
+        here : place_of to'.moves address ≡ to.next + 1
         here = ap (λ (ms : List Relocation). place_of ms address) moves_then ∙ place_then
 
         others : (a : ℕ) → a ≢ address → place_of to'.moves a ≡ place_of to.moves a
@@ -207,29 +238,28 @@ module _ {c : Collection} {space : SpaceWords} {to : ToSpace} {done address : �
         word_before : (k : ℕ) (m : Relocation) (i : ℕ) → slice_get to.moves k ≡ Some m → i < cost_of m.shape
             → word_numbered to'.words.items (m.to + i) ≡ word_numbered to.words.items (m.to + i)
         word_before k m i there below =
-            let place = place_below c.state (place_of to.moves) to.moves (length to.words.items + 1) k m
+            let place = place_below c.state (place_of to.moves) to.moves (to.next + 1) k m
             at.evacuates.holds there in
             ap (λ (ws : List ℕ). word_numbered ws (m.to + i)) words_then
-            ∙ word_in_front to.words.items words (m.to + i) (omega (arith, place.1, below))
+            ∙ put_before to.next words to.words.items (m.to + i) (omega (arith, fits)) (omega (arith, place.1, below))
 
         word_new : (i : ℕ) → i < cost_of shape
-            → word_numbered to'.words.items (length to.words.items + 1 + i) ≡ c.state.word (address + i)
+            → word_numbered to'.words.items (to.next + 1 + i) ≡ c.state.word (address + i)
         word_new i below =
-            ap (λ (ws : List ℕ). word_numbered ws (length to.words.items + 1 + i)) words_then
-            ∙ (word_in_at (to.words.items ++ words) (length to.words.items) i (length to.words.items + 1 + i) refl
-            ∙ (get_or-append-add to.words.items words i 0
-            ∙ (are.each i below ∙ object_words i (subst (λ (x : Shape). i < cost_of x) same_shape below))))
+            ap (λ (ws : List ℕ). word_numbered ws (to.next + 1 + i)) words_then
+            ∙ (put_there to.next words to.words.items i (omega (arith, fits)) (omega (arith, below, are.count_is))
+            ∙ (are.each i below ∙ object_words i (subst (λ (x : Shape). i < cost_of x) same_shape below)))
 
         pub evacuates_then : Evacuates c space' to' done
         evacuates_then = record {
           whole = at.evacuates.whole;
-          holds = subst (λ (ms : List Relocation). Relocates c.state (place_of ms) ms (length to'.words.items + 1))
+          holds = subst (λ (ms : List Relocation). Relocates c.state (place_of ms) ms (to'.next + 1))
               (sym moves_then)
               (subst (Relocates c.state (place_of (to.moves ++ next_move to address shape ∷ []))
               (to.moves ++ next_move to address shape ∷ [])) (omega (arith, longer)) holds_then);
           size = at.evacuates.size ∙ sym sets.size;
           free = at.evacuates.free ∙ ap (λ (n : ℕ). n + 1) (sym sets.used);
-          room = omega (arith, room, at.evacuates.room, sets.used);
+          room = omega (arith, ap length words_then, put_size to.next words to.words.items fits, at.evacuates.room, sets.used);
           within = omega (arith, at.evacuates.within, longer);
           forwarded = λ a known. elim (cases_eq a address) [
             | inl same ↦ subst (λ (b : ℕ). word_at space' b ≡ ref_word (Clean (place_of to'.moves b))) (sym same)
@@ -255,7 +285,7 @@ module _ {c : Collection} {space : SpaceWords} {to : ToSpace} {done address : �
                 → word_numbered to'.words.items (x.to + i) ≡ c.state.word (x.from + i)) last.1 (word_new i) below
           ];
           names = subst (AreCarried c.names to'.names) (sym moves_then)
-              (names_carried c.state (place_of to.moves) c.names to.names to'.names to.moves (length to.words.items + 1)
+              (names_carried c.state (place_of to.moves) c.names to.names to'.names to.moves (to.next + 1)
               (next_move to address shape) at.evacuates.holds refl at.evacuates.names names);
           made = subst (λ (n : ℕ). NamesMade n c.names) (sym sets.size) at.evacuates.made;
         }

@@ -1,5 +1,5 @@
 -- What stands in the place of a header tells where the object went, or that it was not found yet.
-use Rattle.std.proofs.Common.{◌≡◌, ◌≢◌, ℕ, ◌+◌, length, sym, ap, ◌∙◌, subst, arith, inl, inr}
+use Rattle.std.proofs.Common.{◌≡◌, ◌≢◌, ℕ, ◌+◌, sym, ap, ◌∙◌, subst, arith, inl, inr}
 use Rattle.std.specs.Prelude.{Option, None, Some}
 use Rattle.std.proofs.lemmas.Bool.{cases_eq}
 use Rattle.std.proofs.lemmas.Option.{same_Some}
@@ -21,7 +21,7 @@ place_address {c} to a it known =
     let move = it.holds.only a known in
     let is : place_of to.moves a ≡ move.1.to =
     ap (place_of to.moves) (sym move.3) ∙ it.holds.found move.0 move.1 move.2 in
-    let place = place_below c.state (place_of to.moves) to.moves (length to.words.items + 1) move.0 move.1 it.holds
+    let place = place_below c.state (place_of to.moves) to.moves (to.next + 1) move.0 move.1 it.holds
     move.2 in
     record {
       not_null = omega (arith, is, place.0);

@@ -1,10 +1,10 @@
 -- A heap that is copied out: what each call of a collection finds, and what is copied in the end.
-use Rattle.std.proofs.Common.{◌≡◌, ◌≢◌, ℕ, ◌+◌, ◌^◌, ◌<◌, ◌≤◌, List, length, take, refl, sym, ap, ◌∙◌, subst}
+use Rattle.std.proofs.Common.{◌≡◌, ◌≢◌, ℕ, zero, suc, ◌+◌, ◌^◌, ◌<◌, ◌≤◌, List, length, take, refl, sym, ap, ◌∙◌, subst}
 use Rattle.std.proofs.Common.{arith, inl, inr, length-append}
 use Rattle.std.specs.Prelude.{Option, None, Some, nat_lt, slice_get, slice_index}
 use Rattle.std.specs.Option.{option_map}
 use Rattle.std.proofs.lemmas.Bool.{cases_eq}
-use Rattle.std.proofs.lemmas.List.{take_all, take-append-le}
+use Rattle.std.proofs.lemmas.List.{get_or-take, length-take-le, take_all, take-append-le}
 use Rattle.std.proofs.lemmas.Option.{slice_get_within}
 use Rattle.melt_model.proofs.Histories.{slice_get-append_left}
 use Rattle.melt_model.specs.declared.reports.Phase.{Phase}
@@ -18,11 +18,13 @@ use Rattle.melt_scion.specs.declared.registers.Registers.{Registers}
 use Rattle.melt_scion.specs.declared.heap.Heap.{Heap}
 use Rattle.melt_copy.specs.declared.forwarding.Relocation.{Relocation}
 use Rattle.melt_copy.specs.declared.to_space.ToSpace.{ToSpace}
-use Rattle.melt_copy.specs.Moving.{AreHeld, ObjectMoves, WordMoves, words_in}
+use Rattle.melt_copy.specs.Moving.{AreHeld, ObjectMoves, Relocates, WordMoves, words_in}
 use Rattle.melt_copy.specs.Tracking.{MovesScions, moved_pair, word_numbered}
 use Rattle.melt_copy.specs.Copied.{CopiesHeap, StandIn}
 use Rattle.melt_copy.specs.Evacuating.{AreCarried, Collection, Evacuates, EvacuatesIn, EvacuatesQueue, EvacuatesScions}
-use Rattle.melt_copy.specs.Evacuating.{EvacuatesThreads, FindsMore, FindsThreads, ThreadsMove, place_of}
+use Rattle.melt_copy.specs.Evacuating.{EvacuatesThreads, FindsMore, FindsThreads, ThreadsMove, copies_of, place_of}
+use Rattle.melt_copy.proofs.Collects.{other_words}
+use Rattle.melt_copy.proofs.Evacuated.{words_fit}
 use Rattle.melt_copy.specs.Visits.{CountsReached}
 use Rattle.melt_copy.proofs.Growing.{more-then, stays_at, place_more, still_placed, word_more, nothing_at_0}
 use Rattle.melt_copy.proofs.Places.{place_below}
@@ -50,12 +52,12 @@ longer old new more =
 
 -- an object of whose words all were moved
 object_moved : (c : Collection) (space : SpaceWords) (to : ToSpace) (k : ℕ) (m : Relocation)
-    → Evacuates c space to (length to.words.items) → slice_get to.moves k ≡ Some m
+    → Evacuates c space to to.next → slice_get to.moves k ≡ Some m
     → ObjectMoves c.phase (nat_lt k c.front) (place_of to.moves) c.state (word_numbered to.words.items) m
 object_moved c space to k m evacuates at =
     let word = word_numbered to.words.items in
     let f = place_of to.moves in
-    let place = place_below c.state f to.moves (length to.words.items + 1) k m evacuates.holds at in
+    let place = place_below c.state f to.moves (to.next + 1) k m evacuates.holds at in
     record {
       header = λ header starts.
           let part = evacuates.moved k m 0 at (omega arith) (let last = place.1 in omega (arith, last)) in
@@ -77,11 +79,22 @@ object_moved c space to k m evacuates at =
           ap word new ∙ (part.number (omega arith) ∙ ap c.state.word old);
     }
 
+-- a word of the copies has its number among all words
+copy_numbered : (to : ToSpace) (k : ℕ) → k ≤ to.next → word_numbered (copies_of to) k ≡ word_numbered to.words.items k
+copy_numbered to zero below = refl
+copy_numbered to (suc k) below = get_or-take to.next to.words.items k 0 (omega (arith, below))
+
+-- there are as many of them as were counted
+copies_counted : (c : Collection) (space : SpaceWords) (to : ToSpace) (done : ℕ) → Evacuates c space to done
+    → length (copies_of to) ≡ to.next
+copies_counted c space to done evacuates =
+    length-take-le to.next to.words.items (omega (arith, words_fit to evacuates, evacuates.room))
+
 -- the words that were copied are no more than those in use
 copied_fits : (c : Collection) (space : SpaceWords) (to : ToSpace) (done : ℕ) → Evacuates c space to done
-    → length to.words.items ≤ length space.list
+    → to.next ≤ length space.list
 copied_fits c space to done evacuates =
-    let words = found_words c.state (place_of to.moves) to.moves (length to.words.items + 1) evacuates.whole
+    let words = found_words c.state (place_of to.moves) to.moves (to.next + 1) evacuates.whole
     evacuates.holds in
     let behind = evacuates.holds.behind in
     let inside = evacuates.whole.inside in
@@ -110,7 +123,7 @@ pub record GlobalsMoved (phase : Phase) (heap : Heap) (held after : List Registe
   pub first_space : SpaceWords
   pub first : ToSpace
   pub before : HeldFound heap held after first_space first
-  pub held_is : held_words ≡ length first.words.items
+  pub held_is : held_words ≡ first.next
   pub words : List ℕ
   pub words_are : words ≡ heap.globals
   pub count : length globals ≡ length words
@@ -140,7 +153,7 @@ pub record AllMoved (phase : Phase) (heap : Heap) (held after : List Registers) 
   pub before : ScionsMoved phase heap held after held_words globals scions third_space third
   pub more : FindsMore third.moves to.moves
   pub evacuates : (c : Collection) → EvacuatesQueue c phase held_words third_space third 0
-      → Evacuates c space to (length to.words.items)
+      → Evacuates c space to to.next
 
 module _ (phase : Phase) (heap : Heap) (held after : List Registers) (maps : Maps) (disk : OnDisk)
     (formed : Formed maps (state_of heap held disk)) (front : ℕ) where
@@ -237,7 +250,7 @@ module _ {phase : Phase} {heap : Heap} {held after : List Registers} {held_words
   second_more = more-then roots.second.moves all.third.moves to.moves roots.more all.more
 
   all_evacuates : (maps : Maps) (disk : OnDisk) → Formed maps (state_of heap held disk)
-      → Evacuates (collection_of phase heap held disk front) space to (length to.words.items)
+      → Evacuates (collection_of phase heap held disk front) space to to.next
   all_evacuates maps disk formed =
       all.evacuates (collection_of phase heap held disk front) (before_scan roots maps disk formed)
 
@@ -277,7 +290,7 @@ module _ {phase : Phase} {heap : Heap} {held after : List Registers} {held_words
 
   -- everything that can be reached was copied
   pub copies : CopiesHeap phase heap held
-      (record { moves = to.moves; words = to.words.items; globals = globals; held = held_words })
+      (record { moves = to.moves; words = copies_of to; globals = globals; held = held_words })
   copies maps disk formed =
       let c = collection_of phase heap held disk front in
       let evacuates = all_evacuates maps disk formed in
@@ -285,8 +298,13 @@ module _ {phase : Phase} {heap : Heap} {held after : List Registers} {held_words
       record {
         front = front;
         whole = evacuates.whole;
-        holds = evacuates.holds;
-        objects = λ k m at. object_moved c space to k m evacuates at;
+        holds = subst (λ (n : ℕ). Relocates c.state (place_of to.moves) to.moves (n + 1))
+            (sym (copies_counted c space to to.next evacuates)) evacuates.holds;
+        objects = λ k m at.
+            let place = place_below c.state (place_of to.moves) to.moves (to.next + 1) k m evacuates.holds at in
+            other_words (place_of to.moves) c.state (word_numbered to.words.items) (word_numbered (copies_of to)) m
+            (λ a from below. copy_numbered to a (omega (arith, place.1, below)))
+            (object_moved c space to k m evacuates at);
         globals_count = (let count = roots.before.count in omega (arith, count, words));
         globals = λ g below.
             subst (λ (word : ℕ). WordMoves phase (place_of to.moves) word (slice_index globals g))
@@ -334,18 +352,24 @@ module _ {phase : Phase} {heap : Heap} {held after : List Registers} {held_words
   pub names_carried : IsFormed heap held → AreCarried heap.names to.names to.moves
   names_carried formed = (all_evacuates formed.maps formed.disk formed.formed).names
 
-  pub all_fits : IsFormed heap held → length to.words.items ≤ length space.list
+  pub all_fits : IsFormed heap held → to.next ≤ length space.list
   all_fits formed =
-      copied_fits (collection_of phase heap held formed.disk front) space to (length to.words.items)
+      copied_fits (collection_of phase heap held formed.disk front) space to to.next
       (all_evacuates formed.maps formed.disk formed.formed)
+
+  -- and are among those of the vector
+  pub all_given : IsFormed heap held → to.next ≤ length to.words.items
+  all_given formed =
+      let evacuates = all_evacuates formed.maps formed.disk formed.formed in
+      omega (arith, words_fit to evacuates, evacuates.room)
 
   -- the space has as many words as it had
   same_size : IsFormed heap held → length space.list ≡ length heap.space.list
   same_size formed = sym (all_evacuates formed.maps formed.disk formed.formed).size
 
   -- the copies are the first words of the space
-  pub stands_in : {new : SpaceWords} → IsFormed heap held → Replaces space new to.words.items
-      → StandIn heap.space new to.words.items
+  pub stands_in : {new : SpaceWords} → IsFormed heap held → Replaces space new (copies_of to)
+      → StandIn heap.space new (copies_of to)
   stands_in formed replaces = record {
     front = replaces.front;
     size = replaces.size ∙ same_size formed;
@@ -364,10 +388,10 @@ module _ {phase : Phase} {heap : Heap} {held after : List Registers} {held_words
       omega (arith, fits, size, small, words)
 
   -- what was copied takes no more words than all that can be reached
-  pub few_copied : IsFormed heap held → (total : ℕ) → CountsReached heap held total → length to.words.items ≤ total
+  pub few_copied : IsFormed heap held → (total : ℕ) → CountsReached heap held total → to.next ≤ total
   few_copied formed total counts =
       let evacuates = all_evacuates formed.maps formed.disk formed.formed in
-      let few = few_found (state_of heap held formed.disk) (place_of to.moves) to.moves (length to.words.items + 1)
+      let few = few_found (state_of heap held formed.disk) (place_of to.moves) to.moves (to.next + 1)
       evacuates.holds total (counts_over heap held formed.disk total counts) in
       let behind = evacuates.holds.behind in
       omega (arith, few, behind)

@@ -2,7 +2,6 @@
 use Rattle.std.proofs.Common.{◌≡◌, ◌≢◌, ℕ, zero, suc, ◌+◌, ◌-◌, ◌<◌, ◌≤◌, List, length, refl, sym, ap, ◌∙◌, subst}
 use Rattle.std.proofs.Common.{arith, inl, inr, length-set, get_or, get_or-set_same, get_or-set_other}
 use Rattle.std.specs.Prelude.{nat_lt, Option, Some, slice_get, slice_index, slice_set}
-use Rattle.std.specs.Vec.{vec_capacity}
 use Rattle.std.proofs.lemmas.Bool.{cases_eq, cases_order}
 use Rattle.std.proofs.lemmas.List.{get_or_default}
 use Rattle.std.proofs.lemmas.Option.{same_Some}
@@ -19,7 +18,7 @@ use Rattle.melt_copy.specs.Moving.{IsRefWord, Relocates, WordMoves}
 use Rattle.melt_copy.specs.Tracking.{word_numbered}
 use Rattle.melt_copy.specs.Evacuating.{AreCarried, Collection, Evacuates, EvacuatesFor, FindsMore, PartMoves, place_of}
 use Rattle.melt_copy.proofs.Growing.{more-start, stays_at}
-use Rattle.melt_copy.proofs.Evacuated.{part_more}
+use Rattle.melt_copy.proofs.Evacuated.{part_more, words_fit}
 use Rattle.melt_copy.proofs.Places.{place_below, place_behind}
 
 -- a word by its number
@@ -49,18 +48,20 @@ module _ {c : Collection} {space : SpaceWords} (to : ToSpace) {done : ℕ} (k : 
     (it : Evacuates c space to done) (there : slice_get to.moves k ≡ Some m) (below : i < cost_of m.shape)
     (is : m.to + i ≡ done + 1) where
   -- the word is one of the copy
-  pub part_within : done < length to.words.items
+  pub part_within : done < to.next
   part_within =
-      let place = place_below c.state (place_of to.moves) to.moves (length to.words.items + 1) k m it.holds there in
+      let place = place_below c.state (place_of to.moves) to.moves (to.next + 1) k m it.holds there in
       omega (arith, place.1, below, is)
+
+  pub part_inside : done < length to.words.items
+  part_inside = omega (arith, part_within, words_fit to it, it.room)
 
   -- it is as it was
   pub part_waits : slice_index to.words.items done ≡ c.state.word (m.from + i)
   part_waits = sym (numbered to.words.items done (m.to + i) is) ∙ it.waiting k m i there below (omega (arith, is))
 
   module _ (now : ToSpace) (moves : now.moves ≡ to.moves) (names : now.names ≡ to.names)
-      (room : vec_capacity to.words ≤ vec_capacity now.words)
-      (size : length now.words.items ≡ length to.words.items)
+      (next : now.next ≡ to.next) (size : length now.words.items ≡ length to.words.items)
       (others : (a : ℕ) → a ≢ done + 1 → word_numbered now.words.items a ≡ word_numbered to.words.items a)
       (part : PartMoves c (nat_lt k c.front) (place_of to.moves) m i (word_numbered now.words.items (m.to + i))) where
     same_moves : FindsMore to.moves now.moves
@@ -87,13 +88,13 @@ module _ {c : Collection} {space : SpaceWords} (to : ToSpace) {done : ℕ} (k : 
     pub one_more : Evacuates c space now (done + 1)
     one_more = record {
       whole = it.whole;
-      holds = subst (λ (n : ℕ). Relocates c.state (place_of now.moves) now.moves (n + 1)) (sym size)
-          (subst (λ (ms : List Relocation). Relocates c.state (place_of ms) ms (length to.words.items + 1)) (sym moves)
+      holds = subst (λ (n : ℕ). Relocates c.state (place_of now.moves) now.moves (n + 1)) (sym next)
+          (subst (λ (ms : List Relocation). Relocates c.state (place_of ms) ms (to.next + 1)) (sym moves)
           it.holds);
       size = it.size;
       free = it.free;
-      room = omega (arith, it.room, room);
-      within = omega (arith, part_within, size);
+      room = omega (arith, it.room, size);
+      within = omega (arith, part_within, next);
       forwarded = subst (λ (ms : List Relocation). (a : ℕ) → place_of ms a ≢ 0
           → word_at space a ≡ ref_word (Clean (place_of ms a))) (sym moves) it.forwarded;
       kept = subst (λ (ms : List Relocation). (a : ℕ) → place_of ms a ≡ 0 → word_at space a ≡ c.state.word a)
@@ -114,7 +115,7 @@ module _ {c : Collection} {space : SpaceWords} (to : ToSpace) {done : ℕ} (k : 
   module _ (part : PartMoves c (nat_lt k c.front) (place_of to.moves) m i (c.state.word (m.from + i))) where
     pub one_stays : Evacuates c space to (done + 1)
     one_stays =
-        one_more to refl refl (omega arith) refl (λ a other. refl)
+        one_more to refl refl refl refl (λ a other. refl)
         (subst (PartMoves c (nat_lt k c.front) (place_of to.moves) m i)
         (sym (it.waiting k m i there below (omega (arith, is)))) part)
 
@@ -154,7 +155,7 @@ module _ {c : Collection} {space : SpaceWords} (to : ToSpace) (k : ℕ) {m : Rel
     slot_below = omega (arith, refs_are, from, under)
 
     pub slot_within : place < length to.words.items
-    slot_within = part_within to k it there slot_below slot_part
+    slot_within = part_inside to k it there slot_below slot_part
 
     slot_word : slice_index to.words.items place ≡ c.state.word (m.from + 2 + (place - first))
     slot_word =
@@ -170,7 +171,7 @@ module _ {c : Collection} {space : SpaceWords} (to : ToSpace) (k : ℕ) {m : Rel
     pub still_within : (now : ToSpace) {space' : SpaceWords} → Evacuates c space' now place
         → FindsMore to.moves now.moves → place < length now.words.items
     still_within now then_ more =
-        part_within now k then_ (stays_at to.moves now.moves k m more there) slot_below slot_part
+        part_inside now k then_ (stays_at to.moves now.moves k m more there) slot_below slot_part
 
     -- what the next slot refers to can be found
     pub slot_for : EvacuatesFor c space to place (slice_index to.words.items place)
@@ -189,12 +190,12 @@ module _ {c : Collection} {space : SpaceWords} (to : ToSpace) (k : ℕ) {m : Rel
     pub slot_done : (now : ToSpace) {space' : SpaceWords} {word : ℕ} (last : ToSpace)
         → Evacuates c space' now place → FindsMore to.moves now.moves
         → WordMoves c.phase (place_of now.moves) (slice_index to.words.items place) word
-        → last.words.items ≡ slice_set now.words.items place word → vec_capacity now.words ≤ vec_capacity last.words
+        → last.words.items ≡ slice_set now.words.items place word → last.next ≡ now.next
         → last.moves ≡ now.moves → last.names ≡ now.names → Evacuates c space' last (place + 1)
-    slot_done now {word} last then_ more moves words room moves_are names_are =
+    slot_done now {word} last then_ more moves words next moves_are names_are =
         let at = stays_at to.moves now.moves k m more there in
-        let within = part_within now k then_ at slot_below slot_part in
-        one_more now k then_ at slot_below slot_part last moves_are names_are room
+        let within = part_inside now k then_ at slot_below slot_part in
+        one_more now k then_ at slot_below slot_part last moves_are names_are next
         (ap length words ∙ length-set now.words.items place word)
         (λ a other. ap (λ (ws : List ℕ). word_numbered ws a) words ∙ set_others now.words.items place word a other)
         (record {

@@ -2,7 +2,6 @@
 use Rattle.std.proofs.Common.{◌≡◌, ℕ, ◌+◌, ◌<◌, ◌≤◌, List, length, take, get_or, refl, sym, ap, ◌∙◌, subst, arith}
 use Rattle.std.proofs.Common.{inl, inr, length-append, length-set}
 use Rattle.std.specs.Prelude.{Bool, nat_lt, Some, slice_get, slice_set}
-use Rattle.std.specs.Vec.{vec_capacity}
 use Rattle.std.proofs.lemmas.Bool.{cases_eq, cases_lt, lt-ltb, le-ltb}
 use Rattle.std.proofs.lemmas.List.{take-append-le, take_all}
 use Rattle.std.proofs.lemmas.Option.{slice_get_cases, slice_get_within}
@@ -20,7 +19,7 @@ use Rattle.melt_copy.specs.Evacuating.{ScansOne}
 use Rattle.melt_copy.proofs.Growing.{stays_at}
 use Rattle.melt_copy.proofs.Places.{words_in-before}
 use Rattle.melt_copy.proofs.Queue.{words_in-next}
-use Rattle.melt_copy.proofs.Scanned.{part_within, part_waits, one_more, one_stays, numbers_stay, set_others, set_here}
+use Rattle.melt_copy.proofs.Scanned.{part_inside, part_waits, one_more, one_stays, numbers_stay, set_others, set_here}
 use Rattle.melt_copy.proofs.Scanned.{word_is}
 use Rattle.melt_copy.proofs.Sources.{source_shape}
 
@@ -31,7 +30,7 @@ module _ {c : Collection} {phase : Phase} {held : Bool} {space : SpaceWords} (to
 
   -- its header is a word of the copy
   pub header_within : done < length to.words.items
-  header_within = part_within to next.index next.evacuates next.at (omega arith) starts_here
+  header_within = part_inside to next.index next.evacuates next.at (omega arith) starts_here
 
   module _ {word : ℕ} (read : word ≡ get_or to.words.items done word) where
     word_was : word ≡ c.state.word next.move.from
@@ -57,14 +56,14 @@ module _ {c : Collection} {phase : Phase} {held : Bool} {space : SpaceWords} (to
       module _ {header : ℕ} (after : (h : Header) → IsHeader h → h.shape ≡ shape → word ≡ header_word h
           → header ≡ header_word (header_after phase held h))
           (now : ToSpace) (words : now.words.items ≡ slice_set to.words.items done header)
-          (room : vec_capacity to.words ≤ vec_capacity now.words) (moves : now.moves ≡ to.moves)
+          (same_next : now.next ≡ to.next) (moves : now.moves ≡ to.moves)
           (names : now.names ≡ to.names) where
         size : length now.words.items ≡ length to.words.items
         size = ap length words ∙ length-set to.words.items done header
 
         header_done : Evacuates c space now (done + 1)
         header_done =
-            one_more to next.index next.evacuates next.at (omega arith) starts_here now moves names room size
+            one_more to next.index next.evacuates next.at (omega arith) starts_here now moves names same_next size
             (λ a other. ap (λ (ws : List ℕ). word_numbered ws a) words ∙ set_others to.words.items done header a other)
             (record {
               header = λ _ h starts.
@@ -146,7 +145,7 @@ fewer_words moves j k below = elim (cases_eq j k) [
 module _ {c : Collection} {phase : Phase} {held_words : ℕ} {space : SpaceWords} (to : ToSpace) {done : ℕ}
     (queue : EvacuatesQueue c phase held_words space to done) where
   -- an object is left, where words are
-  left : done < length to.words.items → queue.count < length to.moves
+  left : done < to.next → queue.count < length to.moves
   left below = elim (cases_lt queue.count (length to.moves)) [
     | inl there ↦ there
     | inr past ↦
@@ -169,7 +168,7 @@ module _ {c : Collection} {phase : Phase} {held_words : ℕ} {space : SpaceWords
   ]
 
   -- it is next
-  pub next_object : done < length to.words.items → EvacuatesNext c phase (nat_lt done held_words) space to done
+  pub next_object : done < to.next → EvacuatesNext c phase (nat_lt done held_words) space to done
   next_object below = elim (slice_get_cases to.moves queue.count).1 [
     | inl there ↦
         record {

@@ -2,7 +2,6 @@
 use Rattle.std.proofs.Common.{◌≡◌, ℕ, zero, suc, ◌+◌, ◌≤◌, List, [], length, replicate, refl, sym, ap, ◌∙◌, subst}
 use Rattle.std.proofs.Common.{arith}
 use Rattle.std.specs.Prelude.{Option, None, Some, slice_index_or}
-use Rattle.std.specs.Vec.{vec_capacity}
 use Rattle.std.proofs.lemmas.List.{length-replicate}
 use Rattle.std.proofs.lemmas.Option.{same_Some}
 use Rattle.melt_model.specs.declared.reports.Phase.{Phase}
@@ -48,15 +47,15 @@ none_carried words (Some old) taken moved made is empty = (
 none_placed : (moves : List Relocation) (a : ℕ) → moves ≡ [] → place_of moves a ≡ 0
 none_placed moves a empty = ap (λ (ms : List Relocation). place_of ms a) empty
 
-none_moved : (s : State) (moves : List Relocation) (words : List ℕ) → moves ≡ [] → words ≡ []
-    → Relocates s (place_of moves) moves (length words + 1)
-none_moved s moves words empty no_words = record {
+none_moved : (s : State) (moves : List Relocation) (next : ℕ) → moves ≡ [] → next ≡ 0
+    → Relocates s (place_of moves) moves (next + 1)
+none_moved s moves next empty at_0 = record {
   whole = λ k m at. absurd (none_there moves k m empty at);
   found = λ k m at. absurd (none_there moves k m empty at);
   only = λ a known. absurd (known (none_placed moves a empty));
   places = λ k m at. absurd (none_there moves k m empty at);
   behind =
-      ap (λ (ws : List ℕ). length ws + 1) no_words ∙ ap (λ (ms : List Relocation). 1 + words_in ms) (sym empty);
+      ap (λ (n : ℕ). n + 1) at_0 ∙ ap (λ (ms : List Relocation). 1 + words_in ms) (sym empty);
 }
 
 -- the collection of a heap, of whose objects registers hold so many
@@ -68,8 +67,8 @@ collection_of phase heap held disk front =
 pub record Begins (heap : Heap) (space : SpaceWords) (to : ToSpace) : Type 0 where
   pub space_is : space ≡ heap.space
   pub is_space : IsSpace heap.space
-  pub words : to.words.items ≡ []
-  pub room : heap.space.used ≤ vec_capacity to.words
+  pub next : to.next ≡ 0
+  pub room : heap.space.used ≤ length to.words.items
   pub moves : to.moves ≡ []
   pub names : AreCarried heap.names to.names []
   pub made : NamesMade (length heap.space.list) heap.names
@@ -81,7 +80,7 @@ pub evacuates_start : (maps : Maps) (disk : OnDisk) (heap : Heap) (held : List R
 evacuates_start maps disk heap held phase front space to begins formed = record {
   evacuates = record {
     whole = whole_heap maps heap held disk begins.is_space formed;
-    holds = none_moved (state_of heap held disk) to.moves to.words.items begins.moves begins.words;
+    holds = none_moved (state_of heap held disk) to.moves to.next begins.moves begins.next;
     size = ap (λ (sp : SpaceWords). length sp.list) (sym begins.space_is);
     free = ap (λ (sp : SpaceWords). sp.used + 1) (sym begins.space_is);
     room = (let used = ap (λ (sp : SpaceWords). sp.used) begins.space_is in let room = begins.room in

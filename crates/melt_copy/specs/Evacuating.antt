@@ -2,7 +2,6 @@
 -- place of each old header a reference to the copy.
 use Rattle.std.specs.Prelude.{◌≡◌, ◌≢◌, ℕ, ◌+◌, ◌<◌, ◌≤◌, ◌==◌, ◌⊎◌, nat_lt, Bool, if◌then◌else◌, List, [], ◌∷◌, ◌++◌}
 use Rattle.std.specs.Prelude.{length, take, slice_get, slice_index, Option, None, Some}
-use Rattle.std.specs.Vec.{vec_capacity}
 use Rattle.melt_model.specs.declared.reports.Phase.{Phase}
 use Rattle.melt_word.specs.Words.{ref_word, header_word, cost_of}
 use Rattle.melt_word.specs.declared.reference.Ref.TheVariants.{Clean}
@@ -24,6 +23,10 @@ use Rattle.melt_copy.specs.Tracking.{word_numbered}
 abbrev pub place_of : List Relocation → ℕ → ℕ
 place_of [] address = 0
 place_of (m ∷ moves) address = if m.from == address then m.to else place_of moves address
+
+-- the words of the copies
+abbrev pub copies_of : ToSpace → List ℕ
+copies_of to = take to.next to.words.items
 
 -- what was found stays found
 pub record FindsMore (old new : List Relocation) : Type 0 where
@@ -78,11 +81,11 @@ pub record PartMoves (c : Collection) (held : Bool) (f : ℕ → ℕ) (m : Reloc
 -- word of the space has changed.
 pub record Evacuates (c : Collection) (space : SpaceWords) (to : ToSpace) (done : ℕ) : Type 0 where
   pub whole : IsWhole c.state
-  pub holds : Relocates c.state (place_of to.moves) to.moves (length to.words.items + 1)
+  pub holds : Relocates c.state (place_of to.moves) to.moves (to.next + 1)
   pub size : c.state.base.size ≡ length space.list
   pub free : c.state.free ≡ space.used + 1
-  pub room : space.used ≤ vec_capacity to.words
-  pub within : done ≤ length to.words.items
+  pub room : space.used ≤ length to.words.items
+  pub within : done ≤ to.next
   pub forwarded : (a : ℕ) → place_of to.moves a ≢ 0 → word_at space a ≡ ref_word (Clean (place_of to.moves a))
   pub kept : (a : ℕ) → place_of to.moves a ≡ 0 → word_at space a ≡ c.state.word a
   pub moved : (k : ℕ) (m : Relocation) (i : ℕ) → slice_get to.moves k ≡ Some m → i < cost_of m.shape → m.to + i ≤ done

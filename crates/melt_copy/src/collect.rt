@@ -8,13 +8,12 @@
 //! register was looked at. Each is counted once there, however many registers hold it. What globals refer to comes
 //! behind them, then the objects of live scions, to which records on disk refer, and then what slots do.
 ghost use Rattle.std.specs.Prelude.{◌≡◌, ℕ, ◌+◌, ◌*◌, ◌<◌, ◌≤◌, length, None, Option, IfOk, OnErr};
-ghost use Rattle.std.specs.Vec.{vec_capacity};
 ghost use Rattle.melt_space.specs.Space.{Replaces};
 ghost use Rattle.melt_scion.specs.Heaps.{IsFormed, IsSettled};
 ghost use Rattle.melt_scion.specs.declared.heap.Names.{Names};
 ghost use Rattle.melt_copy.specs.Copying.{Collects, IsCopying};
 ghost use Rattle.melt_copy.specs.Copied.{AreRenamed, MayRename, NumbersAre};
-ghost use Rattle.melt_copy.specs.Evacuating.{AreCarried};
+ghost use Rattle.melt_copy.specs.Evacuating.{AreCarried, copies_of};
 ghost use Rattle.melt_copy.specs.Visits.{VisitsAtMost};
 
 use crate::commit::{numbers_of, rename};
@@ -43,12 +42,12 @@ pub fn numbers_for<L: Ledger>(
     }
 }
 
-/// A vector with room for the words in use.
-fn room_for_copy(alloc: Global, heap: &mut Heap) -> Result<Vec<u64>, NoMemory>
-    ensures room { IfOk result (λ room. heap.old.space.used ≤ vec_capacity room) }
+/// A vector of as many words as are in use, or more.
+fn words_for_copy(alloc: Global, heap: &mut Heap) -> Result<Vec<u64>, NoMemory>
+    ensures room { IfOk result (λ words. heap.old.space.used ≤ length words.items) }
     ensures unchanged { heap.new ≡ heap.old }
 {
-    heap.space.room_for_copy(alloc)
+    heap.space.words_for_copy(alloc)
 }
 
 /// Gives the objects that moved their numbers at their new addresses, where the heap keeps names, and else to contracts
@@ -73,9 +72,10 @@ pub fn rename_all<L: Ledger>(
 
 /// Puts the copies into the place of what was there, and gives the heap its names again.
 fn put_back(heap: &mut Heap, to: ToSpace)
-    requires fits { length to.words.items ≤ length heap.old.space.list }
+    requires given { to.next ≤ length to.words.items }
+    requires fits { to.next ≤ length heap.old.space.list }
     requires taken { heap.old.names ≡ None }
-    ensures space { Replaces heap.old.space heap.new.space to.words.items }
+    ensures space { Replaces heap.old.space heap.new.space (copies_of to) }
     ensures names { (names : Option Names) → AreCarried names to.names to.moves
         → AreRenamed names heap.old.maps heap.new.names heap.new.maps to.moves }
     ensures globals { heap.new.globals ≡ heap.old.globals }
@@ -84,10 +84,11 @@ fn put_back(heap: &mut Heap, to: ToSpace)
 {
     let ToSpace {
         words,
+        next,
         moves,
         names,
     } = to;
-    heap.space.replace(words);
+    heap.space.replace_first(words, next);
     match names {
         Some(Renaming { names, moved }) => {
             heap.names = Some(Names {
@@ -121,12 +122,12 @@ pub fn collect_copy<L: Ledger>(
     ensures registers_stay { OnErr result (held.new ≡ held.old) }
     ensures visits { VisitsAtMost 4 heap.old held.old steps.old steps.new }
 {
-    let room = room_for_copy(alloc, heap)?;
+    let words = words_for_copy(alloc, heap)?;
     let live = live_scions(alloc, &heap.scions, steps)?;
     let names = take_names(alloc, &mut heap.names, heap.space.words())?;
-    let mut to = ToSpace::new(room, names);
+    let mut to = ToSpace::new(words, names);
     to.evacuate_held(&mut heap.space, held, steps);
-    let held_words = to.words.len();
+    let held_words = to.next;
     to.move_globals(&mut heap.space, phase, &mut heap.globals.items, steps);
     to.evacuate_scions(&mut heap.space, &mut heap.scions, &live, steps);
     to.scan(&mut heap.space, phase, held_words, steps);

@@ -7,11 +7,10 @@
 //! reference in the copy is to an object in it: what is reached was copied, and nothing else was.
 //!
 //! Objects lie apart from each other among the words in use. So of an object that is still to be found no word has
-//! changed, and what is found takes no more words than were in use, for which there is room from the start. No memory
-//! is taken.
-ghost use Rattle.std.specs.Prelude.{◌≡◌, ◌≢◌, ℕ, ◌+◌, ◌*◌, ◌^◌, ◌<◌, ◌≤◌, ◌⊎◌, [], Bool, length, slice_get, slice_index};
-ghost use Rattle.std.specs.Prelude.{Some};
-ghost use Rattle.std.specs.Vec.{vec_capacity};
+//! changed, and what is found takes no more words than were in use, for which there are words from the start. No
+//! memory is taken.
+ghost use Rattle.std.specs.Prelude.{◌≡◌, ◌≢◌, ℕ, ◌+◌, ◌*◌, ◌^◌, ◌<◌, ◌≤◌, ◌⊎◌, ◌++◌, [], Bool, drop, length, slice_get, slice_index};
+ghost use Rattle.std.specs.Prelude.{take, Some};
 ghost use Rattle.melt_word.specs.Words.{IsAddress, IsRef, cost_of};
 ghost use Rattle.melt_scion.specs.Moves.{kept_tag};
 ghost use Rattle.melt_scion.specs.Scions.{IsTable, scion_at};
@@ -23,7 +22,7 @@ ghost use Rattle.melt_copy.specs.Evacuating.{ScansOne, ThreadsMove, place_of};
 ghost use Rattle.melt_copy.specs.Moving.{WordMoves};
 ghost use Rattle.melt_copy.specs.Tracking.{MovesScions};
 
-use crate::copy::{move_header, push_words};
+use crate::copy::{move_header, visit_words};
 use crate::forwarding::Relocation;
 use crate::names::{Renaming, carry_name};
 use melt_model::{Ghost, Phase, Steps};
@@ -33,11 +32,13 @@ use melt_word::{Ref, cost, encode_ref, forwarded_to, reference_of, shape_of};
 use std::collections::LinkedList;
 use std::sync::ledger::Ledger;
 
-/// The copies of the objects that were found, in a vector with room for all words in use.
+/// The copies of the objects that were found, in a vector of as many words as are in use, or more.
 #[derive(Debug, Drop)]
 pub struct ToSpace {
-    /// The words of the copies, from word 1 on.
+    /// The words of the copies, from word 1 on, and behind them words that have no meaning yet.
     pub words: Vec<u64>,
+    /// How many words the copies are.
+    pub next: usize,
     /// Which object was moved to which address, in the order of the copies, as contracts alone see it.
     pub moves: Ghost<LinkedList<Relocation>>,
     pub names: Option<Renaming>,
@@ -57,19 +58,36 @@ fn tagged(phase: Phase, address: u32) -> Ref
 }
 
 impl ToSpace {
-    /// A copy of no objects yet, into a vector whose items go.
-    pub fn new(mut words: Vec<u64>, names: Option<Renaming>) -> ToSpace
-        ensures words { result.words.items ≡ [] }
-        ensures room { vec_capacity words ≤ vec_capacity result.words }
+    /// A copy of no objects yet, into a vector whose words have no meaning.
+    pub fn new(words: Vec<u64>, names: Option<Renaming>) -> ToSpace
+        ensures words { result.words.items ≡ words.items }
+        ensures next { result.next ≡ 0 }
         ensures moves { result.moves ≡ [] }
         ensures names { result.names ≡ names }
     {
-        words.clear();
         ToSpace {
             words,
+            next: 0,
             moves: Ghost::pick(&()),
             names,
         }
+    }
+
+    /// Puts words behind those of the copies, where others stand that have no meaning. Counts a step for each.
+    #[inline(always)]
+    fn put<L: Ledger>(&mut self, words: &[u64], steps: &mut Steps<L>)
+        requires { self.old.next + length words.now ≤ length self.old.words.items }
+        ensures words { self.new.words.items ≡ take self.old.next self.old.words.items
+            ++ words.now ++ drop (self.old.next + length words.now) self.old.words.items }
+        ensures next { self.new.next ≡ self.old.next + length words.now }
+        ensures moves { self.new.moves ≡ self.old.moves }
+        ensures names { self.new.names ≡ self.old.names }
+        ensures visits { steps.new ≡ steps.old + length words.now }
+    {
+        visit_words(words, steps);
+        let next = self.next + words.len();
+        self.words[self.next..next].copy_from_slice(words);
+        self.next = next;
     }
 
     /// Answers where the object at an address is now. Copies it, if it was not found before.
@@ -83,14 +101,14 @@ impl ToSpace {
             → (slice_get self.old.moves k ≡ Some m) ⊎ (m.from ≡ address) }
         ensures evacuates { (c : Collection) (done : ℕ) → EvacuatesAt c space.old self.old done address
             → Evacuates c space.new self.new done }
-        ensures visits { steps.new + length self.old.words.items ≡ steps.old + length self.new.words.items }
+        ensures visits { steps.new + self.old.next ≡ steps.old + self.new.next }
     {
         if let Some(to) = forwarded_to(space.word(address)) {
             return to;
         }
-        let to = self.words.len() as u32 + 1;
+        let to = self.next as u32 + 1;
         let shape = space.shape(address);
-        push_words(&mut self.words, space.words_at(address, cost(shape)), steps);
+        self.put(space.words_at(address, cost(shape)), steps);
         self.moves = Ghost::pick(&(&self.moves, address, to, shape));
         carry_name(&mut self.names, address, to);
         space.set_word(address, encode_ref(Ref::Clean(to)));
@@ -111,7 +129,7 @@ impl ToSpace {
         ensures more { FindsMore self.old.moves self.new.moves }
         ensures evacuates { (c : Collection) (done : ℕ) → EvacuatesFor c space.old self.old done word
             → Evacuates c space.new self.new done }
-        ensures visits { steps.new + length self.old.words.items ≡ steps.old + length self.new.words.items }
+        ensures visits { steps.new + self.old.next ≡ steps.old + self.new.next }
     {
         match reference_of(word) {
             Ref::Clean(address) => {
@@ -136,7 +154,7 @@ impl ToSpace {
         ensures more { FindsMore self.old.moves self.new.moves }
         ensures evacuates { (c : Collection) → EvacuatesSlots c phase space.old self.old first refs
             → Evacuates c space.new self.new (first + refs) }
-        ensures visits { steps.new + length self.old.words.items ≤ steps.old + length self.new.words.items + refs }
+        ensures visits { steps.new + self.old.next ≤ steps.old + self.new.next + refs }
     {
         for place in first..first + refs as usize {
             steps.tick();
@@ -160,8 +178,8 @@ impl ToSpace {
         ensures more { FindsMore self.old.moves self.new.moves }
         ensures scans { (c : Collection) → (next : EvacuatesNext c phase held space.old self.old done)
             → ScansOne c space.new self.new done result next.move }
-        ensures visits { steps.new + length self.old.words.items + done + 2
-            ≤ steps.old + length self.new.words.items + result }
+        ensures visits { steps.new + self.old.next + done + 2
+            ≤ steps.old + self.new.next + result }
     {
         let header = self.words[done];
         let shape = shape_of(header);
@@ -182,11 +200,11 @@ impl ToSpace {
         requires { (c : Collection) × EvacuatesQueue c phase held_words space.old self.old 0 }
         ensures more { FindsMore self.old.moves self.new.moves }
         ensures evacuates { (c : Collection) → EvacuatesQueue c phase held_words space.old self.old 0
-            → Evacuates c space.new self.new (length self.new.words.items) }
-        ensures visits { steps.new + length self.old.words.items ≤ steps.old + 2 * length self.new.words.items }
+            → Evacuates c space.new self.new (self.new.next) }
+        ensures visits { steps.new + self.old.next ≤ steps.old + 2 * self.new.next }
     {
         let mut done = 0;
-        while done < self.words.len() {
+        while done < self.next {
             steps.tick();
             done = self.scan_object(space, phase, done < held_words, done, steps);
         }
@@ -205,7 +223,7 @@ impl ToSpace {
         ensures more { FindsMore self.old.moves self.new.moves }
         ensures evacuates { (c : Collection) → EvacuatesHeld c space.old self.old (slice_index registers.old.regs)
             → Evacuates c space.new self.new 0 }
-        ensures visits { steps.new + length self.old.words.items ≤ steps.old + length self.new.words.items + 16 }
+        ensures visits { steps.new + self.old.next ≤ steps.old + self.new.next + 16 }
     {
         for address in registers.regs.iter_mut() {
             steps.tick();
@@ -228,8 +246,8 @@ impl ToSpace {
         ensures more { FindsMore self.old.moves self.new.moves }
         ensures evacuates { (c : Collection) → EvacuatesThreads c space.old self.old held.old
             → Evacuates c space.new self.new 0 }
-        ensures visits { steps.new + length self.old.words.items
-            ≤ steps.old + length self.new.words.items + 17 * length held.old }
+        ensures visits { steps.new + self.old.next
+            ≤ steps.old + self.new.next + 17 * length held.old }
     {
         for registers in held.iter_mut() {
             steps.tick();
@@ -251,8 +269,8 @@ impl ToSpace {
         ensures more { FindsMore self.old.moves self.new.moves }
         ensures evacuates { (c : Collection) → EvacuatesIn c phase space.old self.old globals.old
             → Evacuates c space.new self.new 0 }
-        ensures visits { steps.new + length self.old.words.items
-            ≤ steps.old + length self.new.words.items + length globals.old }
+        ensures visits { steps.new + self.old.next
+            ≤ steps.old + self.new.next + length globals.old }
     {
         for word in globals.iter_mut() {
             steps.tick();
@@ -277,8 +295,8 @@ impl ToSpace {
         ensures more { FindsMore self.old.moves self.new.moves }
         ensures evacuates { (c : Collection) → EvacuatesScions c space.old self.old scions.old
             → Evacuates c space.new self.new 0 }
-        ensures visits { steps.new + length self.old.words.items
-            ≤ steps.old + length self.new.words.items + length live.now }
+        ensures visits { steps.new + self.old.next
+            ≤ steps.old + self.new.next + length live.now }
     {
         for scion in live {
             steps.tick();

@@ -1,5 +1,5 @@
 //! A space of 64-bit words, in which objects are made one behind the other.
-ghost use Rattle.std.specs.Prelude.{◌≡◌, ◌+◌, ◌-◌, ◌^◌, ◌<◌, ◌≤◌, ◌++◌, [], drop, length, if◌then◌else◌, IfErr, IfOk};
+ghost use Rattle.std.specs.Prelude.{◌≡◌, ◌+◌, ◌-◌, ◌^◌, ◌<◌, ◌≤◌, ◌++◌, [], drop, length, if◌then◌else◌, take, IfErr, IfOk};
 ghost use Rattle.std.specs.Prelude.{IsErr, OnErr};
 ghost use Rattle.std.specs.Vec.{vec_capacity};
 ghost use Rattle.melt_word.specs.Words.{IsHeader, IsShape, cost_of, header_word};
@@ -50,30 +50,37 @@ fn put_front(list: &mut [u64], words: &[u64])
     list[..words.len()].copy_from_slice(words);
 }
 
-/// Puts the words of the list that would stand behind these there, where they are fewer and there is room for them.
-/// Answers whether it did.
-fn complete(words: &mut Vec<u64>, list: &[u64]) -> bool
-    requires { length words.old.items ≤ length list.now }
-    ensures { words.new.items ≡ (if result then words.old.items
-        ++ drop (length words.old.items) list.now else words.old.items) }
+/// Cuts these words behind the first ones, so many of them, and puts those of the list behind them that stand there,
+/// where these are fewer and there is room for them. Answers whether it did.
+fn complete(words: &mut Vec<u64>, count: usize, list: &[u64]) -> bool
+    requires given { count ≤ length words.old.items }
+    requires fits { count ≤ length list.now }
+    ensures { words.new.items ≡ (if result then take count words.old.items
+        ++ drop count list.now else words.old.items) }
 {
-    let count = words.len();
     let behind = list.len() - count;
-    if behind < count && behind <= words.capacity() - count {
-        return words.extend_from_slice(&list[count..]).is_ok();
+    if behind >= count || words.capacity() < list.len() {
+        return false;
     }
-    false
+    words.truncate(count);
+    if words.extend_from_slice(&list[count..]).is_err() {
+        // Where there is room, no memory is taken.
+        unreachable!()
+    }
+    true
 }
 
-/// Puts these words in the place of the first ones, and gives the vector that is left over.
-fn exchange(list: &mut Vec<u64>, mut words: Vec<u64>) -> Vec<u64>
-    requires { length words.items ≤ length list.old.items }
-    ensures { list.new.items ≡ words.items ++ drop (length words.items) list.old.items }
+/// Puts the first of these words, so many of them, in the place of the first ones, and gives the vector that is left
+/// over.
+fn exchange(list: &mut Vec<u64>, mut words: Vec<u64>, count: usize) -> Vec<u64>
+    requires given { count ≤ length words.items }
+    requires fits { count ≤ length list.old.items }
+    ensures { list.new.items ≡ take count words.items ++ drop count list.old.items }
 {
-    if complete(&mut words, list) {
+    if complete(&mut words, count, list) {
         return replace(list, words);
     }
-    put_front(list, &words);
+    put_front(list, &words[..count]);
     words
 }
 
@@ -179,8 +186,18 @@ impl Space {
         self.used = used;
     }
 
-    /// An empty vector with room for the words in use, for a copy of them. Where they are most of all words, it has
-    /// room for all, so that `replace` can let it take their place.
+    /// How many words a vector for the next copy has room for: those in use at least. Where these are most of all words,
+    /// it is all, so that the copy can take their place.
+    fn room(&self) -> usize
+        ensures used { self.now.used ≤ result }
+        ensures all { result ≤ length self.now.list }
+    {
+        let used = self.used as usize;
+        let all = self.words.len();
+        if all - used < used { all } else { used }
+    }
+
+    /// An empty vector with room for the words in use, for a copy of them that `replace` puts in their place.
     ///
     /// Takes memory only where no vector is kept, or one that is too small, which is let go first.
     pub fn room_for_copy(&mut self, alloc: Global) -> Result<Vec<u64>, NoMemory>
@@ -188,16 +205,34 @@ impl Space {
         ensures room { IfOk result (λ room. self.old.used ≤ vec_capacity room) }
         ensures unchanged { self.new ≡ self.old }
     {
-        let used = self.used as usize;
         if let Some(mut spare) = self.spare.take() {
-            if used <= spare.capacity() {
+            if self.used as usize <= spare.capacity() {
                 spare.clear();
                 return Ok(spare);
             }
         }
-        let all = self.words.len();
-        let room = if all - used < used { all } else { used };
-        Ok(Vec::with_capacity(alloc, room)?)
+        Ok(Vec::with_capacity(alloc, self.room())?)
+    }
+
+    /// As many words as are in use, or more, for a copy that `replace_first` puts in their place. They have no meaning
+    /// before they are written, and so those of the copy before are not cleared.
+    ///
+    /// Takes memory only where no vector is kept, or one that is too small, which is let go first.
+    pub fn words_for_copy(&mut self, alloc: Global) -> Result<Vec<u64>, NoMemory>
+        ensures room { IfOk result (λ words. self.old.used ≤ length words.items) }
+        ensures unchanged { self.new ≡ self.old }
+    {
+        let used = self.used as usize;
+        if let Some(mut spare) = self.spare.take() {
+            if used <= spare.len() {
+                return Ok(spare);
+            }
+            if used <= spare.capacity() {
+                spare.resize(used, 0)?;
+                return Ok(spare);
+            }
+        }
+        Ok(vec![in alloc; 0; self.room()]?)
     }
 
     /// Puts these words, at most all of them, in the place of the first ones, and says that they are those in use.
@@ -207,7 +242,16 @@ impl Space {
         ensures { Replaces self.old self.new words.items }
     {
         let count = words.len();
-        self.spare = Some(exchange(&mut self.words, words));
+        self.replace_first(words, count);
+    }
+
+    /// As `replace`, of the first of these words alone, so many of them.
+    pub fn replace_first(&mut self, words: Vec<u64>, count: usize)
+        requires given { count ≤ length words.items }
+        requires fits { count ≤ length self.old.list }
+        ensures { Replaces self.old self.new (take count words.items) }
+    {
+        self.spare = Some(exchange(&mut self.words, words, count));
         self.used = count as u32;
     }
 }

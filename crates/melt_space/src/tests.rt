@@ -121,3 +121,47 @@ fn a_copy_of_most_words_takes_their_place(rt: HostRuntime) -> Result<(), Fail> {
     assert_eq!(rt; space.room_for_copy(alloc)?.len(), 0);
     Ok(())
 }
+
+#[test]
+fn words_for_a_copy_are_as_many_as_those_in_use(rt: HostRuntime) -> Result<(), Fail> {
+    let alloc = rt.alloc();
+    let mut space = Space::new(alloc, 6)?;
+    assert_eq!(rt; space.words(), 6);
+    space.set_word(3, 9);
+    space.set_used(2);
+    let mut words = space.words_for_copy(alloc)?;
+    assert_eq!(rt; words.as_slice(), [0, 0].as_slice());
+    words[0] = 5;
+    words[1] = 7;
+    space.replace_first(words, 1);
+    assert_eq!(rt; space.used(), 1);
+    assert_eq!(rt; space.word(1), 5);
+    assert_eq!(rt; space.word(2), 0);
+    assert_eq!(rt; space.word(3), 9);
+    // The vector is the one of before, as it was.
+    assert_eq!(rt; space.words_for_copy(alloc)?.as_slice(), [5, 7].as_slice());
+    Ok(())
+}
+
+#[test]
+fn the_first_of_the_words_take_the_place_of_all(rt: HostRuntime) -> Result<(), Fail> {
+    let alloc = rt.alloc();
+    let mut space = Space::new(alloc, 3)?;
+    assert_eq!(rt; space.words(), 3);
+    space.set_word(1, 8);
+    space.set_word(3, 9);
+    space.set_used(3);
+    let words = vec![in alloc; 5, 6, 7]?;
+    space.replace_first(words, 2);
+    assert_eq!(rt; space.used(), 2);
+    assert_eq!(rt; space.words(), 3);
+    assert_eq!(rt; space.word(1), 5);
+    assert_eq!(rt; space.word(2), 6);
+    assert_eq!(rt; space.word(3), 9);
+    // What was there is the vector for the next copy.
+    assert_eq!(rt;
+        space.words_for_copy(alloc)?.as_slice(),
+        [8, 0, 9].as_slice()
+    );
+    Ok(())
+}

@@ -10,7 +10,7 @@ use Rattle.melt_copy.specs.Copied.{AreRenamed}
 use Rattle.melt_copy.specs.Evacuating.{AreCarried, place_of}
 use Rattle.melt_copy.specs.Tracking.{MovesScions}
 use Rattle.melt_copy.proofs.Collects.{put_collects}
-use Rattle.melt_copy.proofs.Outs.{AllMoved, GlobalsMoved, HeldFound, ScionsMoved, all_fits, before_globals, before_scan}
+use Rattle.melt_copy.proofs.Outs.{AllMoved, GlobalsMoved, HeldFound, ScionsMoved, all_fits, all_given, before_globals, before_scan}
 use Rattle.melt_copy.proofs.Outs.{before_scions, copies, few_copied, held_copy, held_small, names_carried}
 use Rattle.melt_copy.proofs.Outs.{registers_moved, scions_moved, stands_in}
 use Rattle.melt_copy.proofs.Reachable.{visits_at_most}
@@ -23,15 +23,15 @@ use Rattle.melt_copy.proofs.collect.collect_copy.Goals.{After-evacuate_scions, A
 -- nothing was copied yet
 begins : (g : Over) (c : After-new-to g) → Begins c.args.heap.now c.heap.inside.0.0 c.new-to.result
 begins g c =
-    let same = c.heap.view_is ∙ c.room_for_copy.ensures.unchanged in
+    let same = c.heap.view_is ∙ c.words_for_copy.ensures.unchanged in
     let space_is : c.heap.inside.0.0 ≡ c.args.heap.now.space = ap (λ (h : Heap). h.space) same in
-    let room = c.in_ok-room.ensures.room in
-    let more = c.new-to.ensures.room in
+    let room = c.in_ok-words.ensures.room in
+    let same_words = ap length c.new-to.ensures.words in
     record {
       space_is = space_is;
       is_space = subst IsSpace space_is c.words.ensures.within;
-      words = c.new-to.ensures.words;
-      room = omega (arith, room, more);
+      next = c.new-to.ensures.next;
+      room = omega (arith, room, same_words);
       moves = c.new-to.ensures.moves;
       names =
           subst (λ (names : Option Names). AreCarried names c.new-to.result.names []) (ap (λ (h : Heap). h.names) same)
@@ -57,17 +57,17 @@ held_found g c start = record {
 globals_found : (g : Over) (c : After-move_globals g)
     → HeldFound c.args.heap.now c.args.held.now c.evacuate_held.new.held c.evacuate_held.new.space
     c.evacuate_held.new.self
-    → GlobalsMoved c.args.phase c.args.heap.now c.args.held.now c.evacuate_held.new.held c.len-held_words.result
+    → GlobalsMoved c.args.phase c.args.heap.now c.args.held.now c.evacuate_held.new.held c.evacuate_held.new.self.next
     c.move_globals.new.globals c.move_globals.new.space c.move_globals.new.self
 globals_found g c found = record {
   first_space = c.evacuate_held.new.space;
   first = c.evacuate_held.new.self;
   before = found;
-  held_is = c.len-held_words.ensures ∙ c.evacuate_held.new.self.words.ok.0;
+  held_is = refl;
   words = c.deref_mut.result.now;
   words_are =
       c.deref_mut.ensures.value
-      ∙ ap (λ (h : Heap). h.globals) (c.heap.view_is ∙ c.room_for_copy.ensures.unchanged);
+      ∙ ap (λ (h : Heap). h.globals) (c.heap.view_is ∙ c.words_for_copy.ensures.unchanged);
   count = c.move_globals.auto.globals;
   moves = c.move_globals.ensures.moves;
   more = c.move_globals.ensures.more;
@@ -76,16 +76,16 @@ globals_found g c found = record {
 
 -- the objects of live scions
 scions_found : (g : Over) (c : After-evacuate_scions g)
-    → GlobalsMoved c.args.phase c.args.heap.now c.args.held.now c.evacuate_held.new.held c.len-held_words.result
+    → GlobalsMoved c.args.phase c.args.heap.now c.args.held.now c.evacuate_held.new.held c.evacuate_held.new.self.next
     c.move_globals.new.globals c.move_globals.new.space c.move_globals.new.self
-    → ScionsMoved c.args.phase c.args.heap.now c.args.held.now c.evacuate_held.new.held c.len-held_words.result
+    → ScionsMoved c.args.phase c.args.heap.now c.args.held.now c.evacuate_held.new.held c.evacuate_held.new.self.next
     c.move_globals.new.globals c.evacuate_scions.new.scions c.evacuate_scions.new.space c.evacuate_scions.new.self
 scions_found g c found = record {
   second_space = c.move_globals.new.space;
   second = c.move_globals.new.self;
   before = found;
   table = c.heap.inside.0.1.0;
-  table_is = ap (λ (h : Heap). h.scions) (c.heap.view_is ∙ c.room_for_copy.ensures.unchanged);
+  table_is = ap (λ (h : Heap). h.scions) (c.heap.view_is ∙ c.words_for_copy.ensures.unchanged);
   moves = c.evacuate_scions.ensures.moves;
   finds = c.evacuate_scions.ensures.finds;
   more = c.evacuate_scions.ensures.more;
@@ -94,9 +94,9 @@ scions_found g c found = record {
 
 -- and what slots lead to
 all_found : (g : Over) (c : After-scan g)
-    → ScionsMoved c.args.phase c.args.heap.now c.args.held.now c.evacuate_held.new.held c.len-held_words.result
+    → ScionsMoved c.args.phase c.args.heap.now c.args.held.now c.evacuate_held.new.held c.evacuate_held.new.self.next
     c.move_globals.new.globals c.evacuate_scions.new.scions c.evacuate_scions.new.space c.evacuate_scions.new.self
-    → AllMoved c.args.phase c.args.heap.now c.args.held.now c.evacuate_held.new.held c.len-held_words.result
+    → AllMoved c.args.phase c.args.heap.now c.args.held.now c.evacuate_held.new.held c.evacuate_held.new.self.next
     c.move_globals.new.globals c.evacuate_scions.new.scions c.scan.new.space c.scan.new.self
 all_found g c roots = record {
   third_space = c.evacuate_scions.new.space;
@@ -124,7 +124,7 @@ move_globals-requires g c =
       before_globals c.args.phase c.args.heap.now c.args.held.now c.evacuate_held.new.held formed.maps formed.disk
           formed.formed 0 c.deref_mut.result.now
           (c.deref_mut.ensures.value
-          ∙ ap (λ (h : Heap). h.globals) (c.heap.view_is ∙ c.room_for_copy.ensures.unchanged)) found,
+          ∙ ap (λ (h : Heap). h.globals) (c.heap.view_is ∙ c.words_for_copy.ensures.unchanged)) found,
     )
 
 pub evacuate_scions-requires-clause-scions : goal.evacuate_scions-requires-clause-scions
@@ -136,7 +136,7 @@ evacuate_scions-requires-clause-scions g c =
       collection_of c.args.phase c.args.heap.now c.args.held.now formed.disk 0,
       before_scions c.args.phase c.args.heap.now c.args.held.now c.evacuate_held.new.held formed.maps formed.disk
           formed.formed 0 c.heap.inside.0.1.0
-          (ap (λ (h : Heap). h.scions) (c.heap.view_is ∙ c.room_for_copy.ensures.unchanged)) found,
+          (ap (λ (h : Heap). h.scions) (c.heap.view_is ∙ c.words_for_copy.ensures.unchanged)) found,
     )
 
 pub scan-requires : goal.scan-requires
@@ -148,6 +148,14 @@ scan-requires g c =
       collection_of c.args.phase c.args.heap.now c.args.held.now formed.disk (length (held_copy roots).moves),
       before_scan roots formed.maps formed.disk formed.formed,
     )
+
+pub put_back-requires-clause-given : goal.put_back-requires-clause-given
+put_back-requires-clause-given g c =
+    let at = goal.at.put_back-requires-clause-given g c in
+    let roots = scions_found g at.After-evacuate_scions (globals_found g at.After-move_globals
+    (held_found g at.After-evacuate_held (begins g at.After-new-to))) in
+    let moved = all_found g at.After-scan roots in
+    all_given moved c.requires.formed
 
 pub put_back-requires-clause-fits : goal.put_back-requires-clause-fits
 put_back-requires-clause-fits g c =
@@ -170,7 +178,7 @@ returns-clause-collected g c =
     let roots = scions_found g at.After-evacuate_scions (globals_found g at.After-move_globals
     (held_found g at.After-evacuate_held (begins g at.After-new-to))) in
     let moved = all_found g at.After-scan roots in
-    let same = c.heap.view_is ∙ c.room_for_copy.ensures.unchanged in
+    let same = c.heap.view_is ∙ c.words_for_copy.ensures.unchanged in
     let formed = c.requires.formed in
     put_collects c.requires.phase c.requires.settled (copies moved) (record {
       space = stands_in moved formed c.put_back.ensures.space;
@@ -208,8 +216,8 @@ overflow_cast-result g c =
     let small = held_small moved c.requires.formed in
     omega (arith, small)
 
-pub returns-in_err-room-clause-visits : goal.returns-in_err-room-clause-visits
-returns-in_err-room-clause-visits g c =
+pub returns-in_err-words-clause-visits : goal.returns-in_err-words-clause-visits
+returns-in_err-words-clause-visits g c =
     visits_at_most 4 c.args.heap.now c.args.held.now c.args.steps.now c.args.steps.now c.requires.formed
     (λ words entry. omega arith)
 
@@ -223,7 +231,7 @@ returns-in_err-live-clause-visits g c =
       arith,
       until,
       is,
-      ap (λ (h : Heap). length h.scions.live) (c.heap.view_is ∙ c.room_for_copy.ensures.unchanged),
+      ap (λ (h : Heap). length h.scions.live) (c.heap.view_is ∙ c.words_for_copy.ensures.unchanged),
     ))
 
 pub returns-in_err-names-clause-visits : goal.returns-in_err-names-clause-visits
@@ -236,7 +244,7 @@ returns-in_err-names-clause-visits g c =
       arith,
       until,
       is,
-      ap (λ (h : Heap). length h.scions.live) (c.heap.view_is ∙ c.room_for_copy.ensures.unchanged),
+      ap (λ (h : Heap). length h.scions.live) (c.heap.view_is ∙ c.words_for_copy.ensures.unchanged),
     ))
 
 pub returns-clause-visits : goal.returns-clause-visits
@@ -245,7 +253,7 @@ returns-clause-visits g c =
     let roots = scions_found g at.After-evacuate_scions (globals_found g at.After-move_globals
     (held_found g at.After-evacuate_held (begins g at.After-new-to))) in
     let moved = all_found g at.After-scan roots in
-    let same = c.heap.view_is ∙ c.room_for_copy.ensures.unchanged in
+    let same = c.heap.view_is ∙ c.words_for_copy.ensures.unchanged in
     visits_at_most 4 c.args.heap.now c.args.held.now c.args.steps.now c.scan.new.steps c.requires.formed
     (λ words entry.
     let few = few_copied moved c.requires.formed entry.objects entry.reached in
@@ -259,7 +267,7 @@ returns-clause-visits g c =
       c.move_globals.ensures.visits,
       c.evacuate_scions.ensures.visits,
       c.scan.ensures.visits,
-      ap length c.new-to.ensures.words,
+      c.new-to.ensures.next,
       ap length c.deref_mut.ensures.value,
       ap length c.deref.ensures.value,
       ap length c.in_ok-live.ensures.live,

@@ -1,4 +1,4 @@
-use Rattle.std.proofs.Common.{◌+◌, length, sym, ◌∙◌, ap, subst, arith}
+use Rattle.std.proofs.Common.{◌+◌, sym, ◌∙◌, ap, subst, arith}
 use Rattle.melt_space.specs.Space.{SpaceWords}
 use Rattle.melt_scion.specs.Scions.{Scions, EachOnce}
 use Rattle.melt_copy.specs.declared.to_space.ToSpace.{ToSpace}
@@ -40,7 +40,7 @@ loop-scion-preserved g c =
                 (subst (λ (t : ToSpace). ScionsSoFar c.args.space.now w.evacuate.new.space c.args.self.now t old
                 w.set_address.new.self live (n + 1)) (sym w.self-is) after));
             visits =
-                let size = ap (λ (t : ToSpace). length t.words.items) w.self-is in
+                let size = ap (λ (t : ToSpace). t.next) w.self-is in
                 omega (arith, c.loop-scion.invariant.visits, c.tick.ensures, w.evacuate.ensures.visits, w.steps-is, size);
           }
       | in_default w ↦
@@ -56,7 +56,7 @@ loop-scion-preserved g c =
                 (subst (λ (t : ToSpace). ScionsSoFar c.args.space.now c.loop-scion.space c.args.self.now t old
                 c.loop-scion.scions live (n + 1)) (sym w.self-is) after));
             visits =
-                let size = ap (λ (t : ToSpace). length t.words.items) w.self-is in
+                let size = ap (λ (t : ToSpace). t.next) w.self-is in
                 omega (arith, c.loop-scion.invariant.visits, c.tick.ensures, w.steps-is, size);
           }
     ]

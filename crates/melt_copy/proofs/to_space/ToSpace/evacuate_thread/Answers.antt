@@ -1,4 +1,4 @@
-use Rattle.std.proofs.Common.{◌+◌, length, List, ℕ, sym, ◌∙◌, ap, subst, arith}
+use Rattle.std.proofs.Common.{◌+◌, List, ℕ, sym, ◌∙◌, ap, subst, arith}
 use Rattle.std.specs.Prelude.{slice_index, slice_set}
 use Rattle.std.proofs.lemmas.List.{get_or_past, set-get_or}
 use Rattle.melt_space.specs.Space.{SpaceWords}
@@ -29,7 +29,7 @@ loop-address-preserved g c =
                 (subst (λ (t : ToSpace). ThreadSoFar c.args.space.now w.evacuate.new.space c.args.self.now t register
                 (slice_set items n w.evacuate.result) (n + 1)) (sym w.self-is) after));
             visits =
-                let size = ap (λ (t : ToSpace). length t.words.items) w.self-is in
+                let size = ap (λ (t : ToSpace). t.next) w.self-is in
                 omega (arith, c.loop-address.invariant.visits, c.tick.ensures, w.evacuate.ensures.visits, w.steps-is, size);
           }
       | else-address-ne0 w ↦
@@ -44,7 +44,7 @@ loop-address-preserved g c =
                 (subst (λ (t : ToSpace). ThreadSoFar c.args.space.now c.loop-address.space c.args.self.now t register
                 items (n + 1)) (sym w.self-is) after));
             visits =
-                let size = ap (λ (t : ToSpace). length t.words.items) w.self-is in
+                let size = ap (λ (t : ToSpace). t.next) w.self-is in
                 omega (arith, c.loop-address.invariant.visits, c.tick.ensures, w.steps-is, size);
           }
     ]

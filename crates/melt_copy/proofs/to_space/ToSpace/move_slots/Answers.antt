@@ -1,11 +1,17 @@
-use Rattle.std.proofs.Common.{ℕ, length-set, refl, sym, subst, arith}
+use Rattle.std.proofs.Common.{ℕ, refl, sym, subst, arith}
 use Rattle.std.specs.Prelude.{slice_index}
 use Rattle.melt_model.specs.declared.reports.Phase.{Phase}
 use Rattle.melt_copy.specs.Moving.{WordMoves}
 use Rattle.melt_copy.specs.Evacuating.{Evacuates, EvacuatesFor, place_of}
+use Rattle.melt_copy.proofs.Evacuated.{used_below, words_fit}
 use Rattle.melt_copy.proofs.Growing.{more-then, stays_at}
 use Rattle.melt_copy.proofs.Scanned.{word_is, slot_within, still_within, slot_for, slot_done}
 use Rattle.melt_copy.proofs.to_space.ToSpace.move_slots.Goals as goal
+
+pub overflow_add-place-end : goal.overflow_add-place-end
+overflow_add-place-end g c =
+    let it = c.requires.1.evacuates in
+    omega (arith, it.within, words_fit c.args.self.now it, (used_below it).0, c.ranges.refs.fits)
 
 pub index-word-requires : goal.index-word-requires
 index-word-requires g c =
@@ -65,13 +71,12 @@ loop-place-preserved g c = record {
       (subst (λ (p : Phase). WordMoves p (place_of c.move_word.new.self.moves) (slice_index now.words.items place)
       c.move_word.result) (sym slots.phase_is)
       (subst (λ (w : ℕ). WordMoves c.args.phase (place_of c.move_word.new.self.moves) w c.move_word.result) (sym word)
-      c.move_word.ensures.moves)) refl (omega arith) refl refl;
+      c.move_word.ensures.moves)) refl refl refl refl;
   visits = omega (
     arith,
     c.loop-place.invariant.visits,
     c.move_word.ensures.visits,
     c.tick.ensures,
-    length-set c.move_word.new.self.words.items c.loop-place.place c.move_word.result,
   );
 }
 

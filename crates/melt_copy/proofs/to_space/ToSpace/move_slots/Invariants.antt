@@ -1,4 +1,4 @@
-use Rattle.std.proofs.Common.{◌+◌, ◌≤◌, length}
+use Rattle.std.proofs.Common.{◌+◌, ◌≤◌}
 use Rattle.melt_copy.specs.Evacuating.{Collection, Evacuates, EvacuatesSlots, FindsMore}
 use Rattle.melt_copy.proofs.to_space.ToSpace.move_slots.Given as goal
 
@@ -7,5 +7,5 @@ invariant-loop-place g l = record {
   more : FindsMore l.fn.self.moves l.self.moves;
   evacuates : (c : Collection) → EvacuatesSlots c l.phase l.fn.space l.fn.self l.first l.refs
       → Evacuates c l.space l.self l.place;
-  visits : l.steps + length l.fn.self.words.items + l.first ≤ l.fn.steps + length l.self.words.items + l.place;
+  visits : l.steps + l.fn.self.next + l.first ≤ l.fn.steps + l.self.next + l.place;
 }

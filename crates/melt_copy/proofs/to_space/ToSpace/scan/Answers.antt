@@ -1,4 +1,4 @@
-use Rattle.std.proofs.Common.{◌≡◌, length, subst, arith}
+use Rattle.std.proofs.Common.{◌≡◌, subst, arith}
 use Rattle.melt_copy.specs.Evacuating.{Evacuates}
 use Rattle.melt_copy.proofs.Evacuated.{words_fit}
 use Rattle.melt_copy.proofs.Growing.{more-then}
@@ -9,14 +9,14 @@ pub scan_object-done-requires : goal.scan_object-done-requires
 scan_object-done-requires g c =
     let now = c.loop-done.self in
     let queue = c.loop-done.invariant.queue c.requires.0 c.requires.1 in
-    (c.requires.0, next_object now queue (omega (arith, c.loop-done-test.true, c.len.ensures, now.words.ok.0)))
+    (c.requires.0, next_object now queue (omega (arith, c.loop-done-test.true)))
 
 pub loop-done-smaller : goal.loop-done-smaller
 loop-done-smaller g c =
     let d = c.requires.0 in
     let now = c.loop-done.self in
     let queue = c.loop-done.invariant.queue d c.requires.1 in
-    let next = next_object now queue (omega (arith, c.loop-done-test.true, c.len.ensures, now.words.ok.0)) in
+    let next = next_object now queue (omega (arith, c.loop-done-test.true)) in
     let scans = c.scan_object-done.ensures.scans d next in
     omega (
       arith,
@@ -25,8 +25,6 @@ loop-done-smaller g c =
       c.requires.1.evacuates.free,
       scans.next_is,
       c.loop-done-test.true,
-      c.len.ensures,
-      now.words.ok.0,
     )
 
 pub loop-done-preserved : goal.loop-done-preserved
@@ -37,7 +35,7 @@ loop-done-preserved g c = record {
   queue = λ d before.
       let now = c.loop-done.self in
       let queue = c.loop-done.invariant.queue d before in
-      let next = next_object now queue (omega (arith, c.loop-done-test.true, c.len.ensures, now.words.ok.0)) in
+      let next = next_object now queue (omega (arith, c.loop-done-test.true)) in
       queue_more now queue next c.scan_object-done.new.self (c.scan_object-done.ensures.scans d next)
       c.scan_object-done.ensures.more;
   visits = omega (
@@ -53,8 +51,8 @@ returns-clause-evacuates g c = λ d before.
     let now = c.loop-done.self in
     let queue = c.loop-done.invariant.queue d before in
     let within = queue.evacuates.within in
-    let all : c.loop-done.done ≡ length now.words.items =
-    omega (arith, within, c.loop-done-test.false, c.len.ensures, now.words.ok.0) in
+    let all : c.loop-done.done ≡ now.next =
+    omega (arith, within, c.loop-done-test.false) in
     subst (Evacuates d c.loop-done.space now) all queue.evacuates
 
 pub returns-clause-visits : goal.returns-clause-visits
