@@ -5,6 +5,7 @@ use Rattle.std.specs.Prelude.{nat_lt, Option, Some, slice_get, slice_index, slic
 use Rattle.std.proofs.lemmas.Bool.{cases_eq, cases_order}
 use Rattle.std.proofs.lemmas.List.{get_or_default}
 use Rattle.std.proofs.lemmas.Option.{same_Some}
+use Rattle.melt_model.specs.declared.reports.Phase.{Phase}
 use Rattle.melt_word.specs.Words.{ref_word, cost_of}
 use Rattle.melt_word.specs.declared.reference.Ref.TheVariants.{Clean}
 use Rattle.melt_word.specs.declared.header.Shape.{Shape}
@@ -16,7 +17,8 @@ use Rattle.melt_copy.specs.declared.names.Renaming.{Renaming}
 use Rattle.melt_copy.specs.declared.to_space.ToSpace.{ToSpace}
 use Rattle.melt_copy.specs.Moving.{IsRefWord, Relocates, WordMoves}
 use Rattle.melt_copy.specs.Tracking.{word_numbered}
-use Rattle.melt_copy.specs.Evacuating.{AreCarried, Collection, Evacuates, EvacuatesFor, FindsMore, PartMoves, place_of}
+use Rattle.melt_copy.specs.Evacuating.{AreCarried, Collection, Evacuates, EvacuatesFor, EvacuatesSlots, FindsMore}
+use Rattle.melt_copy.specs.Evacuating.{PartMoves, place_of}
 use Rattle.melt_copy.proofs.Growing.{more-start, stays_at}
 use Rattle.melt_copy.proofs.Evacuated.{part_more, words_fit}
 use Rattle.melt_copy.proofs.Places.{place_below, place_behind}
@@ -146,66 +148,90 @@ module _ {c : Collection} {space : SpaceWords} (to : ToSpace) (k : ℕ) {m : Rel
         number = λ _. refl;
       })) (omega (arith, is)) (omega (arith, behind)) (omega (arith, fits)))
 
-  module _ {first refs place : ℕ} (it : Evacuates c space to place) (start : first ≡ m.to + 1)
-      (refs_are : m.shape.refs ≡ refs) (from : first ≤ place) (under : place < first + refs) where
-    slot_part : m.to + (place - first + 2) ≡ place + 1
-    slot_part = omega (arith, start, from)
+-- the next word of the copy is a slot of an object
+pub record SlotNext (c : Collection) (space : SpaceWords) (to : ToSpace) (place : ℕ) : Type 0 where
+  pub evacuates : Evacuates c space to place
+  pub index : ℕ
+  pub move : Relocation
+  pub there : slice_get to.moves index ≡ Some move
+  pub slot : ℕ
+  pub below : slot < move.shape.refs
+  pub place_is : move.to + (2 + slot) ≡ place + 1
 
-    slot_below : place - first + 2 < cost_of m.shape
-    slot_below = omega (arith, refs_are, from, under)
+-- one of the slots of an object is, when more was found since they began
+pub slot_next : {c : Collection} {phase : Phase} {before space : SpaceWords} {to now : ToSpace} {first refs place : ℕ}
+    → EvacuatesSlots c phase before to first refs → Evacuates c space now place → FindsMore to.moves now.moves
+    → first ≤ place → place < first + refs → SlotNext c space now place
+slot_next {to} {now} {first} {place} slots evacuates more from under = record {
+  evacuates = evacuates;
+  index = slots.index;
+  move = slots.move;
+  there = stays_at to.moves now.moves slots.index slots.move more slots.at;
+  slot = place - first;
+  below = omega (arith, slots.refs_are, from, under);
+  place_is = omega (arith, slots.place, from);
+}
 
-    pub slot_within : place < length to.words.items
-    slot_within = part_inside to k it there slot_below slot_part
+module _ {c : Collection} {space : SpaceWords} {to : ToSpace} {place : ℕ} (next : SlotNext c space to place) where
+  its_word : 2 + next.slot < cost_of next.move.shape
+  its_word = omega (arith, next.below)
 
-    slot_word : slice_index to.words.items place ≡ c.state.word (m.from + 2 + (place - first))
-    slot_word =
-        part_waits to k it there slot_below slot_part
-        ∙ ap c.state.word (let sum : m.from + (place - first + 2) ≡ m.from + 2 + (place - first) = omega arith in sum)
+  pub slot_within : place < length to.words.items
+  slot_within = part_inside to next.index next.evacuates next.there its_word next.place_is
 
-    slot_of : place - first < (it.holds.whole k m there).header.shape.refs
-    slot_of =
-        subst (λ (x : Shape). place - first < x.refs) (sym (it.holds.whole k m there).shape)
-        (omega (arith, refs_are, from, under))
+  pub slot_word : {word : ℕ} → word ≡ get_or to.words.items place word → slice_index to.words.items place ≡ word
+  slot_word {word} read = word_is to.words.items place word slot_within read
 
-    -- it is still one of the copy when more was found
-    pub still_within : (now : ToSpace) {space' : SpaceWords} → Evacuates c space' now place
-        → FindsMore to.moves now.moves → place < length now.words.items
-    still_within now then_ more =
-        part_inside now k then_ (stays_at to.moves now.moves k m more there) slot_below slot_part
+  slot_was : slice_index to.words.items place ≡ c.state.word (next.move.from + 2 + next.slot)
+  slot_was =
+      part_waits to next.index next.evacuates next.there its_word next.place_is
+      ∙ ap c.state.word (let sum : next.move.from + (2 + next.slot) ≡ next.move.from + 2 + next.slot = omega arith in sum)
 
-    -- what the next slot refers to can be found
-    pub slot_for : EvacuatesFor c space to place (slice_index to.words.items place)
-    slot_for =
-        let move = it.holds.whole k m there in
-        record {
-          evacuates = it;
-          reference = subst IsRefWord (sym slot_word)
-              (it.whole.slots m.from (place - first) move.header move.reached move.starts slot_of);
-          reached = λ address refers.
-              in_slot m.from (place - first) address move.header move.reached move.starts slot_of
-              (subst (λ (w : ℕ). RefersTo w address) slot_word refers);
-        }
+  slot_of : next.slot < (next.evacuates.holds.whole next.index next.move next.there).header.shape.refs
+  slot_of =
+      subst (λ (x : Shape). next.slot < x.refs)
+      (sym (next.evacuates.holds.whole next.index next.move next.there).shape) next.below
 
-    -- and it is done when it was moved
-    pub slot_done : (now : ToSpace) {space' : SpaceWords} {word : ℕ} (last : ToSpace)
-        → Evacuates c space' now place → FindsMore to.moves now.moves
-        → WordMoves c.phase (place_of now.moves) (slice_index to.words.items place) word
-        → last.words.items ≡ slice_set now.words.items place word → last.next ≡ now.next
-        → last.moves ≡ now.moves → last.names ≡ now.names → Evacuates c space' last (place + 1)
-    slot_done now {word} last then_ more moves words next moves_are names_are =
-        let at = stays_at to.moves now.moves k m more there in
-        let within = part_inside now k then_ at slot_below slot_part in
-        one_more now k then_ at slot_below slot_part last moves_are names_are next
-        (ap length words ∙ length-set now.words.items place word)
-        (λ a other. ap (λ (ws : List ℕ). word_numbered ws a) words ∙ set_others now.words.items place word a other)
-        (record {
-          header = λ first. absurd (omega (arith, first));
-          home = λ second. absurd (omega (arith, second));
-          slot = λ _ _.
-              subst (WordMoves c.phase (place_of now.moves) (c.state.word (m.from + (place - first + 2))))
-              (sym (ap (λ (ws : List ℕ). word_numbered ws (m.to + (place - first + 2))) words
-              ∙ set_here now.words.items place word (m.to + (place - first + 2)) within slot_part))
-              (subst (λ (w : ℕ). WordMoves c.phase (place_of now.moves) w word)
-              (part_waits to k it there slot_below slot_part) moves);
-          number = λ behind. absurd (omega (arith, behind, refs_are, from, under));
-        })
+  -- it is still one of the copy when more was found
+  pub still_within : (now : ToSpace) {space' : SpaceWords} → Evacuates c space' now place
+      → FindsMore to.moves now.moves → place < length now.words.items
+  still_within now then_ more =
+      part_inside now next.index then_ (stays_at to.moves now.moves next.index next.move more next.there) its_word
+      next.place_is
+
+  -- what it refers to can be found
+  pub slot_for : EvacuatesFor c space to place (slice_index to.words.items place)
+  slot_for =
+      let move = next.evacuates.holds.whole next.index next.move next.there in
+      record {
+        evacuates = next.evacuates;
+        reference = subst IsRefWord (sym slot_was)
+            (next.evacuates.whole.slots next.move.from next.slot move.header move.reached move.starts slot_of);
+        reached = λ address refers.
+            in_slot next.move.from next.slot address move.header move.reached move.starts slot_of
+            (subst (λ (w : ℕ). RefersTo w address) slot_was refers);
+      }
+
+  -- and it is done when it was moved
+  pub slot_done : (now : ToSpace) {space' : SpaceWords} {word : ℕ} (last : ToSpace)
+      → Evacuates c space' now place → FindsMore to.moves now.moves
+      → WordMoves c.phase (place_of now.moves) (slice_index to.words.items place) word
+      → last.words.items ≡ slice_set now.words.items place word → last.next ≡ now.next
+      → last.moves ≡ now.moves → last.names ≡ now.names → Evacuates c space' last (place + 1)
+  slot_done now {word} last then_ more moves words next_is moves_are names_are =
+      let at = stays_at to.moves now.moves next.index next.move more next.there in
+      let word_at_place = next.move.to + (2 + next.slot) in
+      one_more now next.index then_ at its_word next.place_is last moves_are names_are next_is
+      (ap length words ∙ length-set now.words.items place word)
+      (λ a other. ap (λ (ws : List ℕ). word_numbered ws a) words ∙ set_others now.words.items place word a other)
+      (record {
+        header = λ first. absurd (omega (arith, first));
+        home = λ second. absurd (omega (arith, second));
+        slot = λ _ _.
+            subst (WordMoves c.phase (place_of now.moves) (c.state.word (next.move.from + (2 + next.slot))))
+            (sym (ap (λ (ws : List ℕ). word_numbered ws word_at_place) words
+            ∙ set_here now.words.items place word word_at_place (still_within now then_ more) next.place_is))
+            (subst (λ (w : ℕ). WordMoves c.phase (place_of now.moves) w word)
+            (part_waits to next.index next.evacuates next.there its_word next.place_is) moves);
+        number = λ behind. absurd (omega (arith, behind, next.below));
+      })

@@ -25,6 +25,8 @@ const PIECE: usize = 4096;
 pub struct FileDisk<F> {
     pub file: F,
     pub piece: Vec<u8>,
+    /// That of a reader that was given back, for the next one.
+    spare: Option<Vec<u8>>,
     pub writes: u64,
     pub lends: u64,
     pub faults: Faults,
@@ -77,6 +79,7 @@ impl<F: Drop> FileDisk<F> {
         Ok(FileDisk {
             file,
             piece: vec![in alloc; 0; 8 * PIECE]?,
+            spare: None,
             writes: 0,
             lends: 0,
             faults: Faults::none(),
@@ -179,7 +182,10 @@ where
         ensures writes { self.new.writes ≡ self.old.writes }
     {
         self.lends = self.lends.saturating_add(1);
-        let piece = vec![in alloc; 0; 8 * PIECE].map_err(|_| LendRefusal::NoMemory)?;
+        let piece = match self.spare.take() {
+            Some(piece) if piece.len() == 8 * PIECE => piece,
+            _ => vec![in alloc; 0; 8 * PIECE].map_err(|_| LendRefusal::NoMemory)?,
+        };
         match open_file(&mut self.file) {
             Ok(file) => Ok(FileReader {
                 file,
@@ -202,6 +208,7 @@ where
         ensures writes { self.new.writes ≡ self.old.writes }
     {
         self.read_faults = self.read_faults.saturating_add(reader.faults.count());
+        self.spare = Some(reader.piece);
     }
 }
 
