@@ -1,10 +1,10 @@
 -- A heap that is copied out: what each call of a collection finds, and what is copied in the end.
-use Rattle.std.proofs.Common.{◌≡◌, ◌≢◌, ℕ, zero, suc, ◌+◌, ◌^◌, ◌<◌, ◌≤◌, List, length, take, refl, sym, ap, ◌∙◌, subst}
-use Rattle.std.proofs.Common.{arith, inl, inr, length-append}
+use Rattle.std.proofs.Common.{◌≡◌, ◌≢◌, ℕ, zero, suc, ◌+◌, ◌^◌, ◌<◌, ◌≤◌, List, length, refl, sym, ap, ◌∙◌, subst}
+use Rattle.std.proofs.Common.{arith, inl, inr}
 use Rattle.std.specs.Prelude.{Option, None, Some, nat_lt, slice_get, slice_index}
 use Rattle.std.specs.Option.{option_map}
 use Rattle.std.proofs.lemmas.Bool.{cases_eq}
-use Rattle.std.proofs.lemmas.List.{get_or-take, length-take-le, take_all, take-append-le}
+use Rattle.std.proofs.lemmas.List.{get_or-take, length-take-le, take_all}
 use Rattle.std.proofs.lemmas.Option.{slice_get_within}
 use Rattle.melt_model.proofs.Histories.{slice_get-append_left}
 use Rattle.melt_model.specs.declared.reports.Phase.{Phase}
@@ -29,6 +29,7 @@ use Rattle.melt_copy.specs.Visits.{CountsReached}
 use Rattle.melt_copy.proofs.Growing.{more-then, stays_at, place_more, still_placed, word_more, nothing_at_0}
 use Rattle.melt_copy.proofs.Places.{place_below}
 use Rattle.melt_copy.proofs.Roots.{none_there, scion_of}
+use Rattle.melt_copy.proofs.Scanning.{front_stays, longer}
 use Rattle.melt_copy.proofs.Sources.{found_words}
 use Rattle.melt_copy.proofs.Starting.{Begins, collection_of, evacuates_start}
 use Rattle.melt_copy.proofs.Visited.{counts_over, few_found}
@@ -38,17 +39,6 @@ pub was_at : (old new : List Relocation) (k : ℕ) (m : Relocation) → FindsMor
     → slice_get new k ≡ Some m → slice_get old k ≡ Some m
 was_at old new k m more below at = sym (slice_get-append_left old more.rest k below)
     ∙ (sym (ap (λ (ms : List Relocation). slice_get ms k) more.is) ∙ at)
-
--- the words of the first objects, when more were found
-pub words_stay : (old new : List Relocation) (k : ℕ) → FindsMore old new → k ≤ length old
-    → words_in (take k new) ≡ words_in (take k old)
-words_stay old new k more within = ap (λ (ms : List Relocation). words_in (take k ms)) more.is
-    ∙ ap words_in (take-append-le k old more.rest within)
-
-pub longer : (old new : List Relocation) → FindsMore old new → length old ≤ length new
-longer old new more =
-    let sum : length new ≡ length old + length more.rest = ap length more.is ∙ length-append old more.rest in
-    omega (arith, sum)
 
 -- an object of whose words all were moved
 object_moved : (c : Collection) (space : SpaceWords) (to : ToSpace) (k : ℕ) (m : Relocation)
@@ -227,7 +217,7 @@ module _ {phase : Phase} {heap : Heap} {held after : List Registers} {held_words
             (let behind = first.holds.behind in
             let words : held_words ≡ words_in (held_copy roots).moves = omega (arith, same, behind) in
             words ∙ (sym (ap words_in (take_all front (held_copy roots).moves (omega arith)))
-            ∙ sym (words_stay (held_copy roots).moves to.moves front since_first (omega arith))));
+            ∙ sym (front_stays (held_copy roots).moves to.moves front since_first (omega arith))));
       }
 
 module _ {phase : Phase} {heap : Heap} {held after : List Registers} {held_words : ℕ} {globals : List ℕ}
@@ -315,7 +305,7 @@ module _ {phase : Phase} {heap : Heap} {held after : List Registers} {held_words
         scions = scions_found;
         held_words =
             (before_scan roots maps disk formed).held_is
-            ∙ sym (words_stay all.third.moves to.moves front all.more
+            ∙ sym (front_stays all.third.moves to.moves front all.more
             (longer first.moves all.third.moves (since_first roots)));
       }
 

@@ -120,12 +120,12 @@ module _ {c : Collection} {phase : Phase} {held : Bool} {space : SpaceWords} (to
             }
 
 -- the first ones stay the first ones
-front_stays : (old new : List Relocation) (k : ℕ) → FindsMore old new → k ≤ length old
+pub front_stays : (old new : List Relocation) (k : ℕ) → FindsMore old new → k ≤ length old
     → words_in (take k new) ≡ words_in (take k old)
 front_stays old new k more within = ap (λ (ms : List Relocation). words_in (take k ms)) more.is
     ∙ ap words_in (take-append-le k old more.rest within)
 
-longer : (old new : List Relocation) → FindsMore old new → length old ≤ length new
+pub longer : (old new : List Relocation) → FindsMore old new → length old ≤ length new
 longer old new more = let sum = ap length more.is ∙ length-append old more.rest in omega (arith, sum)
 
 -- fewer objects take no more words
