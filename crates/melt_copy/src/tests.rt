@@ -185,6 +185,16 @@ fn what_is_reached_moves_to_the_front(rt: HostRuntime) -> Result<(), Fail> {
     assert_eq!(rt; held[0].regs, [0; 16]);
     assert_eq!(rt; held[1].regs[2], 0);
     assert_eq!(rt; held[1].regs[3], 1);
+    Ok(())
+}
+
+#[test]
+fn numbers_go_with_what_is_reached(rt: HostRuntime) -> Result<(), Fail> {
+    let alloc = rt.alloc();
+    let (mut heap, mut held) = three_objects(alloc)?;
+    let blank = Blank::new(1);
+    let journal = collect_uncounted::<Brand>(alloc, &mut heap, &mut held, Phase::Inactive, blank)?;
+    assert_eq!(rt; journal, journal_of(Phase::Inactive, 6, 4));
     assert!(rt; heap.names.is_some());
     if let Some(names) = &heap.names {
         for (address, want) in [(1, Some(1)), (4, None), (5, Some(2)), (8, None)] {

@@ -120,6 +120,29 @@ fn a_stale_box_leaves_and_the_leaf_that_it_names_gets_a_stub(rt: HostRuntime) ->
     assert_eq!(rt; held, [Registers { regs }]);
     assert_eq!(rt; heap.scions.get(1), Some((4, 1)));
     assert_eq!(rt; heap.scions.get(2), None);
+    // The Body of the box, whose slot has the home of the leaf, and the Stub of the leaf with its scion.
+    let image = [0, 4_294_967_553, 0, 19, 17_179_869_186, 1];
+    assert_eq!(rt; disk.image.as_slice(), image.as_slice());
+    assert_eq!(rt; disk.writes, 2);
+    Ok(())
+}
+
+#[test]
+fn numbers_go_with_what_leaves_and_what_stays(rt: HostRuntime) -> Result<(), Fail> {
+    let alloc = rt.alloc();
+    let (heap, mut held) = box_and_leaf(alloc)?;
+    let mut disk = SteadyDisk::new(alloc);
+    let mut stale = StaleSpace::new(&mut disk, 6);
+    let made = collect_uncounted::<SteadyDisk, Brand>(
+        alloc,
+        heap,
+        &mut held,
+        &mut stale,
+        Blank::new(1),
+    );
+    let Ok((heap, _journal)) = made else {
+        return Err("refused".into());
+    };
     assert!(rt; heap.names.is_some());
     if let Some(names) = &heap.names {
         for (address, want) in [(1, Some(0)), (3, None)] {
@@ -129,10 +152,6 @@ fn a_stale_box_leaves_and_the_leaf_that_it_names_gets_a_stub(rt: HostRuntime) ->
             assert_eq!(rt; names.homes.get(home), want, "at {home}");
         }
     }
-    // The Body of the box, whose slot has the home of the leaf, and the Stub of the leaf with its scion.
-    let image = [0, 4_294_967_553, 0, 19, 17_179_869_186, 1];
-    assert_eq!(rt; disk.image.as_slice(), image.as_slice());
-    assert_eq!(rt; disk.writes, 2);
     Ok(())
 }
 
