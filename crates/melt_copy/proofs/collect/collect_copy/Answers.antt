@@ -9,6 +9,7 @@ use Rattle.melt_copy.specs.declared.names.Renaming.{Renaming}
 use Rattle.melt_copy.specs.Copied.{AreRenamed}
 use Rattle.melt_copy.specs.Evacuating.{AreCarried, place_of}
 use Rattle.melt_copy.specs.Tracking.{MovesScions}
+use Rattle.melt_copy.specs.Visits.{VisitsAtMost}
 use Rattle.melt_copy.proofs.Collects.{put_collects}
 use Rattle.melt_copy.proofs.Outs.{AllMoved, GlobalsMoved, HeldFound, ScionsMoved, all_fits, all_given, before_globals, before_scan}
 use Rattle.melt_copy.proofs.Outs.{before_scions, copies, few_copied, held_copy, held_small, names_carried}
@@ -17,8 +18,8 @@ use Rattle.melt_copy.proofs.Reachable.{visits_at_most}
 use Rattle.melt_copy.proofs.Starting.{Begins, collection_of, evacuates_start}
 use Rattle.melt_copy.proofs.collect.collect_copy.Given.{Over}
 use Rattle.melt_copy.proofs.collect.collect_copy.Goals as goal
-use Rattle.melt_copy.proofs.collect.collect_copy.Goals.{After-new-to, After-evacuate_held, After-move_globals}
-use Rattle.melt_copy.proofs.collect.collect_copy.Goals.{After-evacuate_scions, After-scan}
+use Rattle.melt_copy.proofs.collect.collect_copy.Goals.{After-live_scions, After-new-to, After-evacuate_held}
+use Rattle.melt_copy.proofs.collect.collect_copy.Goals.{After-move_globals, After-evacuate_scions, After-scan}
 
 -- nothing was copied yet
 begins : (g : Over) (c : After-new-to g) → Begins c.args.heap.now c.heap.inside.0.0 c.new-to.result
@@ -221,8 +222,10 @@ returns-in_err-words-clause-visits g c =
     visits_at_most 4 c.args.heap.now c.args.held.now c.args.steps.now c.args.steps.now c.requires.formed
     (λ words entry. omega arith)
 
-pub returns-in_err-live-clause-visits : goal.returns-in_err-live-clause-visits
-returns-in_err-live-clause-visits g c =
+-- live scions alone were visited
+visits_yet : (g : Over) (c : After-live_scions g)
+    → VisitsAtMost 4 c.args.heap.now c.args.held.now c.args.steps.now c.live_scions.new.steps
+visits_yet g c =
     visits_at_most 4 c.args.heap.now c.args.held.now c.args.steps.now c.live_scions.new.steps c.requires.formed
     (λ words entry.
     let until = c.live_scions.ensures.visits in
@@ -234,18 +237,13 @@ returns-in_err-live-clause-visits g c =
       ap (λ (h : Heap). length h.scions.live) (c.heap.view_is ∙ c.words_for_copy.ensures.unchanged),
     ))
 
+pub returns-in_err-live-clause-visits : goal.returns-in_err-live-clause-visits
+returns-in_err-live-clause-visits g c =
+    visits_yet g (goal.at.returns-in_err-live-clause-visits g c).After-live_scions
+
 pub returns-in_err-names-clause-visits : goal.returns-in_err-names-clause-visits
 returns-in_err-names-clause-visits g c =
-    visits_at_most 4 c.args.heap.now c.args.held.now c.args.steps.now c.live_scions.new.steps c.requires.formed
-    (λ words entry.
-    let until = c.live_scions.ensures.visits in
-    let is = entry.is in
-    omega (
-      arith,
-      until,
-      is,
-      ap (λ (h : Heap). length h.scions.live) (c.heap.view_is ∙ c.words_for_copy.ensures.unchanged),
-    ))
+    visits_yet g (goal.at.returns-in_err-names-clause-visits g c).After-live_scions
 
 pub returns-clause-visits : goal.returns-clause-visits
 returns-clause-visits g c =
