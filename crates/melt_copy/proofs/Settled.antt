@@ -6,7 +6,7 @@ use Rattle.std.proofs.Common.{ap, subst, arith, add-one}
 use Rattle.std.proofs.Math.ListN.{length-set}
 use Rattle.std.proofs.lemmas.Bool.{cases_eq, cases_lt}
 use Rattle.std.proofs.lemmas.Option.{same_Some}
-use Rattle.std.proofs.lemmas.List.{get_or-set_same, get_or-set_other, get_or_past}
+use Rattle.std.proofs.lemmas.List.{get_or-set_same, get_or-set_other, get_or_past, take_all}
 use Rattle.std.proofs.lemmas.List.Sums.{count_by_more_yes, count_by_more_no}
 use Rattle.std.proofs.lemmas.Bool.Decides.{nat_tests}
 use Rattle.std.specs.Prelude.{◌/◌, ◌^◌, true, false, nat_lt, take, Option, None, Some, slice_index}
@@ -271,6 +271,20 @@ all_settled old new all p = elim (cases_lt p (length old.forward)) [
   | inl below ↦ all.empty p below
   | inr past ↦ all.rest p past ∙ get_or_past old.forward p 0 past
 ]
+
+-- Of words that are all empty none is filled.
+none_below : (words : List ℕ) → ((p : ℕ) → slice_index words p ≡ 0) → (k : ℕ) → k ≤ length words
+    → filled (take k words) ≡ 0
+none_below words empty zero within = refl
+none_below words empty (suc k) within =
+    let test : nat_lt 0 (slice_index words k) ≡ false = let none = empty k in grind (arith, nat_tests) in
+    ap (λ (n : ℕ). filled (take n words)) (sym (add-one k))
+    ∙ (count_by_more_no (λ word. nat_lt 0 word) words k 0 (omega (arith, within)) test
+    ∙ none_below words empty k (omega (arith, within)))
+
+pub none_filled : (words : List ℕ) → ((p : ℕ) → slice_index words p ≡ 0) → filled words ≡ 0
+none_filled words empty =
+    ap filled (sym (take_all (length words) words (omega arith))) ∙ none_below words empty (length words) (omega arith)
 
 -- What stands when the forwarding words below the place were passed, of which so many were filled.
 pub record IsSettledSoFar (old now : Heap) (end : ℕ) (before after : Option (List ℕ)) (place count : ℕ) : Type 0 where

@@ -7,7 +7,7 @@
 //! The Stub is written before anything in the heap names its scion. Until the home word does, the home counts as
 //! forwarded, and nothing is said of the words that stand at it. So a write that fails leaves a heap that stands for
 //! all that it stood for, whatever it left on disk, and only the scion has to be given back.
-ghost use Rattle.std.specs.Prelude.{◌≡◌, ◌<◌, ◌≤◌, length, slice_index, IfOk, MatchOption, OnOk, OnErr};
+ghost use Rattle.std.specs.Prelude.{◌≡◌, ◌<◌, ◌≤◌, ◌↔◌, length, slice_index, IfOk, IsTrue, MatchOption, OnOk, OnErr};
 ghost use Rattle.melt_forward.specs.Forwarding.{IsForwarding, Sends};
 ghost use Rattle.melt_io.specs.Outside.{Rose, counted};
 ghost use Rattle.melt_copy.specs.Settling.{IsFormedTo, Keeps, RisesBy, SettlesAt, SettlesBelow, StillTold, StopsAtOne};
@@ -19,6 +19,14 @@ use melt_forward::unpack;
 use melt_io::{Failed, StaleDisk};
 use melt_scion::{Forwards, Heap};
 use melt_word::{HomeWord, encode_home};
+
+/// Whether no object is to be settled, as before most collections. No turn depends on a test, so a processor reads
+/// several words at once.
+fn is_settled(heap: &Heap) -> bool
+    ensures { IsTrue result ↔ IsSettled heap.now }
+{
+    heap.forward.items.iter().fold(0, |all, word| all | *word) == 0
+}
 
 /// The home and the address that the forwarding word at a place sends, if it is filled.
 fn sent_at(forward: &Forwards, place: usize) -> Option<(u32, u32)>
@@ -91,6 +99,9 @@ pub fn settle<D: StaleDisk>(heap: &mut Heap, space: &mut StaleSpace<'_, D>) -> R
     ensures limit { space.new.limit ≡ space.old.limit }
     ensures same_disk { space.new.disk.ghost_name ≡ space.old.disk.ghost_name }
 {
+    if is_settled(heap) {
+        return Ok(0);
+    }
     let mut settled = 0;
     for place in 0..heap.forward.items.len() {
         if let Some((home, address)) = sent_at(&heap.forward, place) {

@@ -1,5 +1,5 @@
 //! The fields of a line.
-ghost use Rattle.std.specs.Prelude.{◌≡◌, ◌==◌, not, ℕ, List, [], ◌∷◌, position, MatchOption};
+ghost use Rattle.std.specs.Prelude.{◌≡◌, ◌==◌, not, [], ◌∷◌, position, MatchOption};
 ghost use Rattle.std.specs.List.{list_all};
 ghost use Rattle.melt_trace.specs.Language.{fields_of, is_printable};
 ghost use Rattle.melt_trace.specs.Parsing.{AreArguments};
@@ -40,7 +40,7 @@ fn start(bytes: &[u8]) -> Option<usize>
 }
 
 /// The first field, and what stands behind it.
-fn next_field(bytes: &[u8]) -> Option<(&[u8], &[u8])>
+pub fn next_field(bytes: &[u8]) -> Option<(&[u8], &[u8])>
     ensures { MatchOption result (fields_of bytes.now ≡ []) (λ x. fields_of bytes.now ≡ x.0.now ∷ fields_of x.1.now) }
 {
     let Some(start) = start(bytes) else {
@@ -53,7 +53,8 @@ fn next_field(bytes: &[u8]) -> Option<(&[u8], &[u8])>
     }
 }
 
-fn other_fields(bytes: &[u8]) -> Arguments<'_>
+/// The fields of what stands behind the first one of a line.
+pub fn other_fields(bytes: &[u8]) -> Arguments<'_>
     ensures { AreArguments result (fields_of bytes.now) }
 {
     let Some((first, rest)) = next_field(bytes) else {
@@ -69,15 +70,4 @@ fn other_fields(bytes: &[u8]) -> Arguments<'_>
         None => Arguments::Three(first, second, third),
         Some(_) => Arguments::Many,
     }
-}
-
-/// The first field of a line, and the fields behind it.
-pub fn split_fields(line: &[u8]) -> Option<(&[u8], Arguments<'_>)>
-    ensures { MatchOption result (fields_of line.now ≡ []) (λ x. (fields : List (List ℕ))
-        × (fields_of line.now ≡ x.0.now ∷ fields) × AreArguments x.1 fields) }
-{
-    let Some((first, rest)) = next_field(line) else {
-        return None;
-    };
-    Some((first, other_fields(rest)))
 }

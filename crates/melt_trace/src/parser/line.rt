@@ -7,7 +7,7 @@ ghost use Rattle.melt_trace.specs.Drafts.{place_of, IsSoundDraft, LeadsTo};
 use crate::language::{Stage, Word};
 use crate::parser::draft::Draft;
 use crate::parser::fault::Fault;
-use crate::parser::fields::{Arguments, is_printable_line, split_fields};
+use crate::parser::fields::{Arguments, is_printable_line, next_field, other_fields};
 use crate::parser::numbers::{Limits, heading, none, one, two};
 use crate::parser::operations::operation;
 use crate::parser::words::word;
@@ -148,8 +148,8 @@ pub fn take_line(draft: &mut Draft, alloc: Global, line: &[u8]) -> Result<(), Fa
     if !is_printable_line(line) {
         return Err(Fault::Bad(Reason::BadByte));
     }
-    match split_fields(line) {
+    match next_field(line) {
         None | Some(([b'#', ..], _)) => Ok(()),
-        Some((first, arguments)) => take_fields(draft, alloc, first, &arguments),
+        Some((first, rest)) => take_fields(draft, alloc, first, &other_fields(rest)),
     }
 }

@@ -6,7 +6,7 @@ use Rattle.melt_disk.specs.Homes.{Stale}
 use Rattle.melt_scion.specs.declared.heap.Heap.{Heap}
 use Rattle.melt_copy.specs.Settling.{Keeps, SettlesBelow, StillTold, StopsAtOne, RisesBy, filled}
 use Rattle.melt_copy.proofs.Settled.{IsSettledSoFar, keeps_both, so_far_none, so_far_past, so_far_more, forwarding_word}
-use Rattle.melt_copy.proofs.Settled.{sends_filled, counted_more, rises_more, all_settled}
+use Rattle.melt_copy.proofs.Settled.{sends_filled, counted_more, none_filled, rises_more, all_settled}
 use Rattle.melt_copy.proofs.settling.settle.Goals as goal
 use Rattle.melt_copy.proofs.settling.settle.Goals.{in-Some+in_ok-settle_one, in_default}
 
@@ -169,3 +169,7 @@ returns-clause-counts g c =
     let count : c.len-place-end.result ≡ length old.forward = search rules in
     let so_far = c.loop-place.invariant.so_far in
     so_far.counts ∙ ap filled (take_all c.loop-place.place old.forward (omega (arith, count)))
+
+pub returns-then-is_settled-clause-counts : goal.returns-then-is_settled-clause-counts
+returns-then-is_settled-clause-counts g c =
+    sym (none_filled c.args.heap.now.forward (c.is_settled.ensures.0 c.if-is_settled.true))
