@@ -25,8 +25,6 @@ pub mod LiveSets
 pub mod Pairs
 pub mod Collects
 pub mod Building
-pub mod BuildingScion
-pub mod BuildingForwarded
 pub mod Costs
 pub mod Stubs
 pub mod SettlingOne

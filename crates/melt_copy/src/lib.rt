@@ -22,6 +22,3 @@ pub use copy::{move_header, push_words, visit_words};
 pub use forwarding::{Forwarding, Relocation};
 pub use live::{LiveSet, reach};
 pub use settling::settle;
-
-#[cfg(test)]
-mod tests;

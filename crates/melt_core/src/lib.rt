@@ -21,6 +21,3 @@ pub use answer::{Pause, Refusal, StepResult};
 pub use held::held_words;
 pub use laws::{shared_words, stale_bits};
 pub use machine::{Core, Rest};
-
-#[cfg(test)]
-mod tests;

@@ -1,4 +1,3 @@
 pub mod Apart
 pub mod Needs
 pub mod Reserved
-pub mod Testing

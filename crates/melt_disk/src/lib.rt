@@ -4,6 +4,3 @@
 pub mod space;
 
 pub use space::{DiskFull, StaleSpace};
-
-#[cfg(test)]
-mod tests;

@@ -18,6 +18,3 @@ mod steps;
 
 pub use epoch::Epoch;
 pub use mutator::Mutator;
-
-#[cfg(test)]
-mod tests;

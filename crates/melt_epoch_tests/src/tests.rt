@@ -1,5 +1,6 @@
 use super::*;
 
+mod epoch;
 mod given;
 mod homes;
 mod judge;

@@ -2,4 +2,3 @@ pub mod OneAnswer
 pub mod Pairs
 pub mod Probing
 pub mod Searching
-pub mod Written

@@ -4,6 +4,3 @@
 pub mod forwarding;
 
 pub use forwarding::{Found, find, pack, unpack};
-
-#[cfg(test)]
-mod tests;

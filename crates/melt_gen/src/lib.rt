@@ -9,6 +9,3 @@ mod workload;
 
 pub use making::generate;
 pub use workload::{GenRefusal, Workload};
-
-#[cfg(test)]
-mod tests;

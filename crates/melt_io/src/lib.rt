@@ -34,6 +34,3 @@ pub use outside::{
 pub use steady::{SteadyDisk, SteadyReader, SteadySink, SteadySource};
 pub use whole::{ReadRefusal, read_all, write_all};
 pub use words::{get_words, put_words, words_read_back};
-
-#[cfg(test)]
-mod tests;

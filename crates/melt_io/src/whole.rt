@@ -51,7 +51,7 @@ impl From<AllocError> for ReadRefusal {
     }
 }
 
-/// Reads to the end, in pieces of 64 KiB at most. The limit is in bytes: no more than one byte past it
+/// Reads to the end, in pieces of 64 KiB, or of one byte past the limit where that is less. The limit is in bytes: no more than one byte past it
 /// is taken. `TooLong` comes as soon as that byte was taken, `Fault` from the first read that fails,
 /// and `NoMemory` where no memory is left for a piece or for the bytes.
 pub fn read_all<S: Source>(alloc: Global, s: &mut S, limit: usize) -> Result<Vec<u8>, ReadRefusal>
@@ -66,7 +66,8 @@ pub fn read_all<S: Source>(alloc: Global, s: &mut S, limit: usize) -> Result<Vec
     ensures fault { IsErrOf result ReadRefusal.Fault → Rose (S.faults s.old) (S.faults s.new) }
     ensures count { S.faults s.old ≤ S.faults s.new }
 {
-    let mut piece = vec![in alloc; 0; PIECE]?;
+    // No literal length: the prover would compute the whole list out.
+    let mut piece = vec![in alloc; 0; PIECE.min(limit.saturating_add(1))]?;
     let mut bytes = Vec::new(alloc);
     while read_more(s, &mut piece, &mut bytes, limit)? {}
     Ok(bytes)

@@ -1,5 +1,4 @@
 pub mod Histories
-pub mod OneAnswer
 pub mod Transcripts
 pub mod Sums
 pub mod AliveObjects

@@ -59,6 +59,3 @@ impl<T> fmt::Debug for Ghost<T> {
 unsafe impl<T> Send for Ghost<T> {}
 
 unsafe impl<T> Sync for Ghost<T> {}
-
-#[cfg(test)]
-mod tests;

@@ -6,7 +6,6 @@ pub mod config;
 pub mod ghosts;
 pub mod history;
 pub mod operations;
-mod plain;
 pub mod reports;
 pub mod steps;
 pub mod words;

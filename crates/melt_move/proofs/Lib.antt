@@ -19,11 +19,8 @@ pub mod Nothing
 pub mod Prepared
 pub mod Marking
 pub mod Giving
-pub mod TwoObjects
 pub mod Encoding
 pub mod Written
-pub mod BuildingTwo
-pub mod BuildingBox
 pub mod ScionRoom
 pub mod GivingScions
 pub mod Awaiting

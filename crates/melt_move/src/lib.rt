@@ -18,5 +18,3 @@ pub mod homes;
 pub mod planned;
 pub mod scions;
 pub mod staying;
-#[cfg(test)]
-mod tests;

@@ -4,6 +4,3 @@
 pub mod policy;
 
 pub use policy::next_phase;
-
-#[cfg(test)]
-mod tests;

@@ -29,10 +29,8 @@ pub mod Onward
 pub mod Owing
 pub mod Passing
 pub mod Refused
-pub mod Resting
 pub mod Running
 pub mod RunsEpoch
-pub mod Starting
 pub mod ThreadsEnded
 pub mod ThreadsOwn
 pub mod ThreadsPassed

@@ -6,5 +6,4 @@ pub mod Firsts
 pub mod Machines
 pub mod Parts
 pub mod Programs
-pub mod Tests
 pub mod Workers

@@ -21,6 +21,3 @@ pub use machine::Parallel;
 pub use rest::{Paused, go_on};
 pub use run::run_threads;
 pub use worker::Worker;
-
-#[cfg(test)]
-mod tests;

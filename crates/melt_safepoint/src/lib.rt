@@ -24,6 +24,3 @@ pub use run::Run;
 pub use space::{Space, tells};
 pub use thread::{Mode, ThreadState, halt_all, mode_after, new_states, words_lacked};
 pub use whole::run_by_engine;
-
-#[cfg(test)]
-mod tests;

@@ -91,6 +91,3 @@ impl HomeNames {
         self.numbers.remove(&home);
     }
 }
-
-#[cfg(test)]
-mod tests;

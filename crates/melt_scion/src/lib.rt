@@ -14,6 +14,3 @@ pub use maps::GhostMaps;
 pub use names::AddressNames;
 pub use registers::Registers;
 pub use scions::ScionTable;
-
-#[cfg(test)]
-mod tests;

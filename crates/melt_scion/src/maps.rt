@@ -52,6 +52,3 @@ impl fmt::Debug for GhostMaps {
         f.write_str("GhostMaps")
     }
 }
-
-#[cfg(test)]
-mod tests;

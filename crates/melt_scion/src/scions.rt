@@ -140,6 +140,3 @@ impl ScionTable {
         live_above(&self.pairs, scion)
     }
 }
-
-#[cfg(test)]
-mod tests;

@@ -4,6 +4,3 @@
 pub mod space;
 
 pub use space::{NoRoom, Space};
-
-#[cfg(test)]
-mod tests;

@@ -4,6 +4,3 @@
 pub mod text;
 
 pub use text::table;
-
-#[cfg(test)]
-mod tests;

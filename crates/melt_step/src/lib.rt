@@ -13,6 +13,3 @@ mod turns;
 
 pub use choices::any_choices;
 pub use run::run_schedule;
-
-#[cfg(test)]
-mod tests;

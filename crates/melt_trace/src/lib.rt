@@ -18,6 +18,3 @@ pub use printing::{print, push_line};
 pub use reason::Reason;
 pub use script::Item;
 pub use trace::{Program, Trace};
-
-#[cfg(test)]
-mod tests;

@@ -13,8 +13,6 @@ mod lines;
 mod number;
 mod numbers;
 mod operations;
-#[cfg(test)]
-mod tests;
 mod words;
 
 use crate::error::{ParseRefusal, TraceError};

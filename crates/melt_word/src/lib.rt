@@ -14,6 +14,3 @@ pub use reference::{
     BadWord, MAX_ADDRESS, Ref, decode_ref, encode_ref, forwarded_to, held_word, one_ref_per_word,
     reference_of,
 };
-
-#[cfg(test)]
-mod tests;

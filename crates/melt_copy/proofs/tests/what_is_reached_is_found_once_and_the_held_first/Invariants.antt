@@ -1,4 +1,0 @@
-use Rattle.melt_copy.proofs.tests.what_is_reached_is_found_once_and_the_held_first.Given as goal
-
-abbrev pub ghosts-reach_uncounted : goal.ghosts-reach_uncounted
-ghosts-reach_uncounted g a = record { name = a.blank.name; parts = a.blank.parts }

@@ -1,0 +1,2 @@
+mod BuildingForwarded
+mod BuildingScion

@@ -1,0 +1,5 @@
+//! Tests of `melt_copy`.
+#![tactic(auto)]
+
+#[cfg(test)]
+mod tests;

@@ -1,0 +1,5 @@
+//! Tests of `melt_core`.
+#![tactic(auto)]
+
+#[cfg(test)]
+mod tests;

@@ -1,6 +1,0 @@
-use Rattle.std.specs.Prelude.{Some, []}
-use Rattle.melt_epoch.specs.Tests.{HasBegun}
-use Rattle.melt_epoch.proofs.tests.given.expect.Given as goal
-
-abbrev pub invariant-loop-at : goal.invariant-loop-at
-invariant-loop-at g l = HasBegun (λ _. Some []) l.epoch.words l.mutators

@@ -1,5 +1,0 @@
-use super::*;
-
-mod given;
-mod threads;
-mod turns;

@@ -1,6 +1,0 @@
-use Rattle.std.proofs.Common.{◌∷◌, [], refl}
-use Rattle.melt_forward.proofs.Written.{told_by_test}
-use Rattle.melt_forward.proofs.tests.a_home_is_found_at_its_address.Goals as goal
-
-pub find-requires-clause-words : goal.find-requires-clause-words
-find-requires-clause-words g c = told_by_test (4294967304 ∷ 17179869196 ∷ 0 ∷ []) refl

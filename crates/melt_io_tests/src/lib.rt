@@ -1,0 +1,5 @@
+//! Tests of `melt_io`.
+#![tactic(auto)]
+
+#[cfg(test)]
+mod tests;

@@ -1,5 +1,0 @@
-use Rattle.std.specs.Prelude.{[]}
-use Rattle.melt_model.proofs.ghosts.tests.nothing_told.Given as goal
-
-abbrev pub ghost-pick : goal.ghost-pick
-ghost-pick a = record { history = []; length = 0 }

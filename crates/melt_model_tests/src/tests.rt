@@ -1,0 +1,3 @@
+mod alive;
+mod ghosts;
+mod plain;

@@ -1,7 +1,0 @@
-use super::*;
-
-mod choice;
-mod collect;
-mod given;
-mod moved;
-mod planned;

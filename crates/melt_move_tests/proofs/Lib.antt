@@ -1,0 +1,3 @@
+mod BuildingBox
+mod BuildingTwo
+mod TwoObjects

@@ -1,0 +1,5 @@
+//! Tests of `melt_move`.
+#![tactic(auto)]
+
+#[cfg(test)]
+mod tests;

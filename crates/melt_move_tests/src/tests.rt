@@ -1,0 +1,7 @@
+use melt_move::*;
+
+mod choice;
+mod collect;
+mod given;
+mod moved;
+mod planned;

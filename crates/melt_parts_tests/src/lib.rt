@@ -1,0 +1,5 @@
+//! Tests of `melt_policy`.
+#![tactic(auto)]
+
+#[cfg(test)]
+mod tests;

@@ -1,0 +1,7 @@
+mod disk;
+mod forward;
+mod policy;
+mod record;
+mod scion;
+mod space;
+mod word;

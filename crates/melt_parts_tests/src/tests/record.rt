@@ -1,0 +1,71 @@
+use melt_record::*;
+use melt_word::Shape;
+use std::fmt::InlineText;
+
+const SHAPE: Shape = Shape { refs: 0, nums: 1 };
+
+fn damaged(at: u32, word: u64) -> Damaged {
+    Damaged { home: 1, at, word }
+}
+
+#[test]
+fn words_of_a_body(rt: HostRuntime) {
+    let mut out = [9; 3];
+    encode_body(1, SHAPE, &[7], &mut out);
+    assert_eq!(rt; out, [4_295_032_833, 0, 7]);
+    let head = Head {
+        shape: SHAPE,
+        kind: Kind::Body,
+    };
+    assert_eq!(rt; decode_head(1, 4, [4_295_032_833, 0]), Ok(head));
+}
+
+#[test]
+fn words_of_a_stub(rt: HostRuntime) {
+    let mut out = [7; 2];
+    encode_stub(1, SHAPE, 1, &mut out);
+    assert_eq!(rt; out, [4_295_032_834, 1]);
+    let head = Head {
+        shape: SHAPE,
+        kind: Kind::Stub { scion: 1 },
+    };
+    assert_eq!(rt; decode_head(1, 4, [4_295_032_834, 1]), Ok(head));
+}
+
+#[test]
+fn heads_that_are_refused(rt: HostRuntime) {
+    for (end, words, at) in [
+        (3, [4_295_032_833, 0], 0),
+        (4, [0, 0], 0),
+        (4, [4_295_032_835, 0], 0),
+        (100, [4_295_048_961, 0], 0),
+        (100, [8_590_000_129, 0], 0),
+        (4, [4_295_098_369, 0], 0),
+        (4, [4_295_032_833, 5], 1),
+        (4, [4_295_032_834, 0], 1),
+    ] {
+        let word = if at == 0 { words[0] } else { words[1] };
+        let found = decode_head(1, end, words);
+        assert_eq!(rt; found, Err(damaged(at, word)), "at {word}");
+    }
+}
+
+#[test]
+fn slots_of_a_body(rt: HostRuntime) {
+    let one_ref = Shape { refs: 1, nums: 0 };
+    assert_eq!(rt; decode_rest(1, 4, one_ref, &[4]), Err(damaged(2, 4)));
+    let shape = Shape { refs: 2, nums: 1 };
+    assert_eq!(rt; decode_rest(1, 4, shape, &[0, 15, 4]), Ok(()));
+    for word in [4, 19] {
+        let found = decode_rest(1, 4, shape, &[7, word, 0]);
+        assert_eq!(rt; found, Err(damaged(3, word)), "at {word}");
+    }
+}
+
+#[test]
+fn text_of_damage(rt: HostRuntime) {
+    assert_eq!(rt;
+        InlineText::<64>::of(damaged(3, 19)).as_str(),
+        "record of home 1 is damaged at word 3: 19"
+    );
+}

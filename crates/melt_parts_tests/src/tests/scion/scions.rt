@@ -1,0 +1,51 @@
+use melt_scion::*;
+use std::test::Fail;
+
+#[test]
+fn numbers_are_given_in_order_and_the_last_freed_first(rt: HostRuntime) -> Result<(), Fail> {
+    let mut scions = ScionTable::new(rt.alloc(), 3)?;
+    assert_eq!(rt; scions.get(1), None);
+    assert_eq!(rt; scions.add(9, 5), 1);
+    assert_eq!(rt; scions.add(8, 6), 2);
+    assert_eq!(rt; scions.add(7, 1), 3);
+    scions.free(2);
+    scions.free(1);
+    assert_eq!(rt; scions.add(4, 2), 1);
+    assert_eq!(rt; scions.add(3, 4), 2);
+    for (scion, want) in [
+        (0, None),
+        (1, Some((4, 2))),
+        (2, Some((3, 4))),
+        (3, Some((7, 1))),
+        (4, None),
+    ] {
+        assert_eq!(rt; scions.get(scion), want, "at {scion}");
+    }
+    Ok(())
+}
+
+#[test]
+fn a_walk_passes_each_live_scion(rt: HostRuntime) -> Result<(), Fail> {
+    let mut scions = ScionTable::new(rt.alloc(), 3)?;
+    assert_eq!(rt; scions.first(), None);
+    assert_eq!(rt; scions.add(9, 5), 1);
+    assert_eq!(rt; scions.add(8, 6), 2);
+    assert_eq!(rt; scions.add(7, 1), 3);
+    scions.free(2);
+    assert_eq!(rt; scions.first(), Some(1));
+    assert_eq!(rt; scions.next(1), Some(3));
+    assert_eq!(rt; scions.next(3), None);
+    Ok(())
+}
+
+#[test]
+fn an_address_is_set_and_the_home_stays(rt: HostRuntime) -> Result<(), Fail> {
+    let mut scions = ScionTable::new(rt.alloc(), 2)?;
+    scions.add(9, 5);
+    scions.add(8, 6);
+    scions.set_address(1, 7);
+    assert_eq!(rt; scions.get(1), Some((9, 7)));
+    assert_eq!(rt; scions.get(2), Some((8, 6)));
+    assert_eq!(rt; scions.first(), Some(1));
+    Ok(())
+}

@@ -1,5 +1,0 @@
-use Rattle.std.specs.Prelude.{true}
-use Rattle.melt_pool.proofs.tests.run_on.Given as goal
-
-abbrev pub ghost-pick : goal.ghost-pick
-ghost-pick g a = true

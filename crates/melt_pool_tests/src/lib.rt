@@ -1,0 +1,5 @@
+//! Tests of `melt_pool`.
+#![tactic(auto)]
+
+#[cfg(test)]
+mod tests;

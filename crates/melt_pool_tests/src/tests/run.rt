@@ -1,0 +1,147 @@
+ghost use Rattle.melt_model.specs.Config.{InRanges};
+
+use super::*;
+use melt_pool::run::run_threads;
+use melt_disk::StaleSpace;
+use melt_io::{StaleDisk, SteadyDisk};
+use melt_model::{Config, Report};
+
+/// How often a thread looks for the other before it goes on without it.
+const HOLD: u32 = 1_000_000_000;
+
+/// A gate that holds each of two threads before its operation of this number, until the other has come there too. It
+/// counts the threads that it held in vain.
+#[derive(Drop)]
+struct Meeting {
+    at: u64,
+    came: [AtomicU64; 2],
+    missed: AtomicU64,
+}
+
+impl Meeting {
+    fn new(at: u64) -> Meeting {
+        Meeting {
+            at,
+            came: [AtomicU64::new(0), AtomicU64::new(0)],
+            missed: AtomicU64::new(0),
+        }
+    }
+
+    /// Whether both threads came.
+    fn is_met(&self) -> bool {
+        self.came[0].load(Ordering::SeqCst) != 0 && self.came[1].load(Ordering::SeqCst) != 0
+    }
+
+    fn hold(&self) {
+        for _ in 0..HOLD {
+            if self.is_met() {
+                return;
+            }
+        }
+        self.missed.fetch_add(1, Ordering::SeqCst);
+    }
+}
+
+impl Gate for Meeting {
+    fn before(&self, thread: u32, op: u64) {
+        match self.came.get(thread as usize) {
+            Some(came) if op == self.at => {
+                came.store(1, Ordering::SeqCst);
+                self.hold();
+            }
+            _ => {}
+        }
+    }
+}
+
+/// The numbers of a run over 16 words in which objects leave at the third collection.
+fn leaving() -> Config
+    ensures { InRanges result }
+{
+    Config {
+        heap: 16,
+        forward: 16,
+        disk: 4096,
+        mark: 0,
+        move_: 0,
+        every: 0,
+    }
+}
+
+/// Runs a trace by threads, over a disk that does not fail.
+fn run_over<X: Threads + Sync, G: Gate + Sync>(
+    rt: &X,
+    alloc: Global,
+    text: &[u8],
+    gate: &G,
+) -> Result<(Report, Option<Heap>), Fail> {
+    let trace = parse(alloc, text)?;
+    let config = leaving();
+    let mut disk = SteadyDisk::new(alloc);
+    let mut space = StaleSpace::new(&mut disk, config.disk);
+    Ok(run_threads(rt, alloc, &trace, config, &mut space, gate)?)
+}
+
+/// Compares what the threads of a run were told, and that each of them came to its end.
+fn expect_replies<R: Abort>(rt: &R, report: &Report, wanted: &[&[Reply]]) {
+    assert_eq!(rt; report.threads.items.len(), wanted.len());
+    for (thread, replies) in report.threads.items.iter().zip(wanted) {
+        assert_eq!(rt; thread.replies.items.as_slice(), *replies);
+        assert_eq!(rt; thread.end, ThreadEnd::Done);
+    }
+    assert_eq!(rt; report.halt, None);
+}
+
+#[test]
+fn two_threads_are_in_one_epoch_at_once(rt: HostRuntime) -> Result<(), Fail> {
+    let text = b"melt 1\nthreads 2\nglobals 0\nthread 0\ndrop 0\ndone\nthread 1\ndrop 0\ndone\n";
+    let gate = Meeting::new(1);
+    let (report, left) = run_over(&rt, rt.alloc(), text, &gate)?;
+    expect_replies(&rt, &report, &[&[Reply::Done], &[Reply::Done]]);
+    assert!(rt; left.is_some());
+    let missed = gate.missed.load(Ordering::SeqCst);
+    assert_eq!(rt; missed, 0);
+    Ok(())
+}
+
+#[test]
+fn objects_of_two_threads_move_to_disk_and_come_back(rt: HostRuntime) -> Result<(), Fail> {
+    let text = b"melt 1\nthreads 2\nglobals 2\n\
+        thread 0\nnew 0 0 1\nput 0 0 7\ngstore 0 0\ndrop 0\n\
+        collect\ncollect\ncollect\ngload 0 0\nget 0 0\ndone\n\
+        thread 1\nnew 0 0 1\nput 0 0 8\ngstore 1 0\ndrop 0\n\
+        collect\ncollect\ncollect\ngload 0 1\nget 0 0\ndone\n";
+    let done = Reply::Done;
+    // Both have dropped their object before the first collection, so that one finds both stale.
+    let gate = Meeting::new(5);
+    let (report, left) = run_over(&rt, rt.alloc(), text, &gate)?;
+    let first = [
+        done,
+        done,
+        done,
+        done,
+        done,
+        done,
+        done,
+        Reply::Ref,
+        Reply::Num(7),
+    ];
+    let second = [
+        done,
+        done,
+        done,
+        done,
+        done,
+        done,
+        done,
+        Reply::Ref,
+        Reply::Num(8),
+    ];
+    expect_replies(&rt, &report, &[&first, &second]);
+    assert!(rt; left.is_some());
+    let missed = gate.missed.load(Ordering::SeqCst);
+    assert_eq!(rt; missed, 0);
+    let bodies = report.journal.items.iter().map(|it| it.bodies).max();
+    assert_eq!(rt; bodies, Some(2));
+    Ok(())
+}

@@ -1,5 +1,0 @@
-use Rattle.melt_scion.specs.GhostMaps.{numbered}
-use Rattle.melt_scion.proofs.maps.tests.with_number.Given as goal
-
-abbrev pub ghost-pick : goal.ghost-pick
-ghost-pick a = let from = a.from.now in numbered from.0.now from.1 from.2

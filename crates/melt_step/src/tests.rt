@@ -1,8 +1,0 @@
-use super::*;
-
-mod faults;
-mod given;
-mod growing;
-mod moved;
-mod order;
-mod room;

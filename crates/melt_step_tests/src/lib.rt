@@ -1,0 +1,5 @@
+//! Tests of `melt_safepoint`.
+#![tactic(auto)]
+
+#[cfg(test)]
+mod tests;

@@ -1,0 +1,2 @@
+mod safepoint;
+mod step;

@@ -1,0 +1,5 @@
+//! Tests of `melt_gen`.
+#![tactic(auto)]
+
+#[cfg(test)]
+mod tests;

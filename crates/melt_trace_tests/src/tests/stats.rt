@@ -1,0 +1,103 @@
+use melt_stats::*;
+use csv::{Reader, StringRecord};
+use melt_model::{Journal, Journals, Phase};
+use std::alloc::Global;
+use std::test::Fail;
+
+fn journal(alloc: Global, items: &[Journal]) -> Result<Journals, Fail> {
+    let items = Vec::from_slice(alloc, items)?;
+    Ok(Journals { items })
+}
+
+#[test]
+fn no_collection(rt: HostRuntime) -> Result<(), Fail> {
+    let text = table(rt.alloc(), &journal(rt.alloc(), &[])?)?;
+    assert_eq!(rt;
+        text.as_slice(),
+        b"number,phase,held,live,bodies,stubs,end\n".as_slice()
+    );
+    Ok(())
+}
+
+#[test]
+fn each_phase(rt: HostRuntime) -> Result<(), Fail> {
+    let items = [
+        Journal {
+            phase: Phase::Inactive,
+            held: 0,
+            live: 4294967295,
+            bodies: 0,
+            stubs: 0,
+            end: 1,
+        },
+        Journal {
+            phase: Phase::Mark,
+            held: 12,
+            live: 345,
+            bodies: 6,
+            stubs: 70,
+            end: 4294967295,
+        },
+        Journal {
+            phase: Phase::Move,
+            held: 4294967295,
+            live: 4294967294,
+            bodies: 4294967293,
+            stubs: 4294967292,
+            end: 4294967291,
+        },
+    ];
+    let text = table(rt.alloc(), &journal(rt.alloc(), &items)?)?;
+    let wanted = b"number,phase,held,live,bodies,stubs,end\n\
+        1,inactive,0,4294967295,0,0,1\n\
+        2,mark,12,345,6,70,4294967295\n\
+        3,move,4294967295,4294967294,4294967293,4294967292,4294967291\n";
+    assert_eq!(rt; text.as_slice(), wanted.as_slice());
+    Ok(())
+}
+
+/// What a reader of such tables finds in a row: the number in a column.
+fn number_in(row: &StringRecord, column: usize) -> Option<u32> {
+    row.get(column)?.parse().ok()
+}
+
+#[test]
+fn a_reader_finds_the_numbers(rt: HostRuntime) -> Result<(), Fail> {
+    let items = [
+        Journal {
+            phase: Phase::Inactive,
+            held: 3,
+            live: 20,
+            bodies: 0,
+            stubs: 4,
+            end: 1,
+        },
+        Journal {
+            phase: Phase::Move,
+            held: 0,
+            live: 4294967295,
+            bodies: 17,
+            stubs: 18,
+            end: 268435456,
+        },
+    ];
+    let text = table(rt.alloc(), &journal(rt.alloc(), &items)?)?;
+    let mut count = 0u32;
+    for row in Reader::from_reader(rt.alloc(), text.as_slice()).into_records() {
+        let row = row?;
+        let Some(item) = items.get(count as usize) else {
+            assert!(rt; false);
+            return Ok(());
+        };
+        count = count.wrapping_add(1);
+        assert_eq!(rt; number_in(&row, 0), Some(count));
+        assert_eq!(rt; number_in(&row, 2), Some(item.held));
+        assert_eq!(rt; number_in(&row, 3), Some(item.live));
+        assert_eq!(rt; number_in(&row, 4), Some(item.bodies));
+        assert_eq!(rt; number_in(&row, 5), Some(item.stubs));
+        assert_eq!(rt; number_in(&row, 6), Some(item.end));
+        assert!(rt; row.get(7).is_none());
+    }
+    assert_eq!(rt; count, 2);
+    Ok(())
+}
