@@ -24,8 +24,6 @@ pub mod Roots
 pub mod LiveSets
 pub mod Pairs
 pub mod Collects
-pub mod Building
-pub mod Costs
 pub mod Stubs
 pub mod SettlingOne
 pub mod Settled

@@ -25,7 +25,7 @@ use Rattle.melt_scion.proofs.Geometry.{one_header}
 use Rattle.melt_scion.proofs.Tables.{scions_made}
 use Rattle.melt_scion.proofs.Starting.{no_scion_in}
 use Rattle.melt_copy.specs.Settling.{IsFormedTo}
-use Rattle.melt_copy.proofs.Building.{leaf_header, none_at}
+use Rattle.melt_copy_tests.proofs.Building.{leaf_header, none_at}
 
 -- a home with no stub yet
 abbrev pub home_only : ℕ → HomeWord

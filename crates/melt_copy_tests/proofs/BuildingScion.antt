@@ -23,7 +23,7 @@ use Rattle.melt_scion.specs.declared.heap.Heap.{Heap}
 use Rattle.melt_scion.proofs.Geometry.{one_header}
 use Rattle.melt_scion.proofs.Tables.{scions_made, scions_kept}
 use Rattle.melt_scion.proofs.Starting.{no_scion_in}
-use Rattle.melt_copy.proofs.Building.{leaf_header, none_at}
+use Rattle.melt_copy_tests.proofs.Building.{leaf_header, none_at}
 
 -- the home word of the second leaf, and what its scion names
 abbrev pub first_home : HomeWord

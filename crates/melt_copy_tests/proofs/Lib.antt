@@ -1,2 +1,3 @@
 mod BuildingForwarded
 mod BuildingScion
+pub mod Building

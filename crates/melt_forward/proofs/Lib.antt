@@ -1,4 +1,3 @@
-pub mod OneAnswer
 pub mod Pairs
 pub mod Probing
 pub mod Searching

@@ -27,7 +27,7 @@ use Rattle.melt_scion.proofs.Geometry.{one_header}
 use Rattle.melt_scion.proofs.SameObjects.{NamesMatch}
 use Rattle.melt_scion.proofs.Tables.{scions_made}
 use Rattle.melt_scion.proofs.Starting.{nothing_at, no_scion_in}
-use Rattle.melt_copy.proofs.Building.{none_at}
+use Rattle.melt_copy_tests.proofs.Building.{none_at}
 use Rattle.melt_move.specs.Collecting.{IsFormedOn}
 use Rattle.melt_move_tests.proofs.TwoObjects.{HasTwo, leaf_header, box_header, at_leaf, at_box, used, size}
 use Rattle.melt_move_tests.proofs.TwoObjects.{leaf_word, box_word}

@@ -24,7 +24,6 @@ pub mod EnteringTells
 pub mod Making
 pub mod Committing
 pub mod Searching
-pub mod Holding
 pub mod Starting
 pub mod HomesApart
 pub mod Phases

@@ -1,6 +1,6 @@
 use Rattle.std.proofs.Common.{lit≤}
 use Rattle.std.specs.Prelude.{true}
-use Rattle.melt_copy.proofs.Building.{new_formed, new_settled, none_held}
+use Rattle.melt_copy_tests.proofs.Building.{new_formed, new_settled, none_held}
 use Rattle.melt_copy_tests.proofs.tests.a_heap_without_objects_stays_so.Goals as goal
 
 pub collect_uncounted-requires-clause-formed : goal.collect_uncounted-requires-clause-formed

@@ -3,7 +3,7 @@ use Rattle.std.specs.Prelude.{Some}
 use Rattle.melt_space.specs.Space.{SetsWord}
 use Rattle.melt_scion.specs.declared.registers.Registers.{Registers}
 use Rattle.melt_scion.specs.declared.heap.Heap.{Heap}
-use Rattle.melt_copy.proofs.Building.{second_holds, three_formed, fourth_held}
+use Rattle.melt_copy_tests.proofs.Building.{second_holds, three_formed, fourth_held}
 use Rattle.melt_copy_tests.proofs.tests.three_objects.Goals as goal
 
 pub returns-clause-formed : goal.returns-clause-formed

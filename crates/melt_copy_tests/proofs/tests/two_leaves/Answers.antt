@@ -3,7 +3,7 @@ use Rattle.std.specs.Prelude.{Some}
 use Rattle.melt_space.specs.Space.{SetsWord}
 use Rattle.melt_scion.specs.declared.registers.Registers.{Registers}
 use Rattle.melt_scion.specs.declared.heap.Heap.{Heap}
-use Rattle.melt_copy.proofs.Building.{no_registers, none_held}
+use Rattle.melt_copy_tests.proofs.Building.{no_registers, none_held}
 use Rattle.melt_copy_tests.proofs.BuildingScion.{scion_formed}
 use Rattle.melt_copy_tests.proofs.tests.two_leaves.Goals as goal
 
