@@ -36,7 +36,6 @@ pub mod Making
 pub mod Bodies
 pub mod Resting
 pub mod Sharing
-pub mod Onward
 pub mod Distinct
 pub mod Retaining
 pub mod Refusing

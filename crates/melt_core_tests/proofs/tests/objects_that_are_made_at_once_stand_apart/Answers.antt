@@ -4,7 +4,7 @@ use Rattle.melt_model.specs.declared.operations.Op.TheVariants as op
 use Rattle.melt_scion.specs.Heaps.{no_homes_on}
 use Rattle.melt_core.specs.Advances.{InBounds, Asks}
 use Rattle.melt_core.specs.Views.{View, view}
-use Rattle.melt_core.proofs.Onward.{Onward, onward_event}
+use Rattle.melt_core_tests.proofs.Onward.{Onward, onward_event}
 use Rattle.melt_core_tests.proofs.tests.objects_that_are_made_at_once_stand_apart.Goals as goal
 
 -- a thread may go on while there is room for an entry

@@ -4,7 +4,7 @@ use Rattle.melt_scion.specs.Heaps.{no_homes_on}
 use Rattle.melt_core.specs.declared.answer.StepResult.TheVariants.{Going}
 use Rattle.melt_core.specs.Views.{view}
 use Rattle.melt_core.specs.Advances.{Goes}
-use Rattle.melt_core.proofs.Onward.{KeepsOthers_both, IsOver, event_over, going, going_continues, going_nearer}
+use Rattle.melt_core_tests.proofs.Onward.{KeepsOthers_both, IsOver, event_over, going, going_continues, going_nearer}
 use Rattle.melt_core_tests.proofs.tests.run_call.Goals as goal
 
 pub returns-in_default : goal.returns-in_default
