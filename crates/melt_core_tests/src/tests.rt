@@ -3,12 +3,12 @@ ghost use Rattle.melt_scion.specs.Heaps.{no_homes_on};
 ghost use Rattle.melt_core.specs.Advances.{AdvancesOver, Asks, InBounds, KeepsOthers};
 ghost use Rattle.melt_core.specs.Views.{IsQuiet, Standing, call_of, view};
 
-use melt_core::*;
+use melt_core::{Core, Pause, Refusal, Rest, StepResult};
 use melt_io::{Failed, RecordReader};
 use melt_model::{Act, Entry, NoMemory, Op, Reply, Slot, Value};
-use melt_scion::Heap;
+use melt_same::same;
+use melt_scion::{Heap, Registers};
 use std::alloc::Global;
-use std::process::Abort;
 use std::test::Fail;
 
 /// The reader of a disk to which nothing was ever written.
@@ -81,7 +81,7 @@ fn gstore(g: u8, src: u8) -> Op {
     Op::GStore { g, src }
 }
 
-fn same(a: u8, b: u8) -> Op {
+fn compare(a: u8, b: u8) -> Op {
     Op::Same { a, b }
 }
 
@@ -91,6 +91,7 @@ fn core_over(alloc: Global, words: u32, named: bool) -> Result<Core, NoMemory>
     requires { words < 2 ^ 30 }
     ensures stands { IfOk result (λ core. Standing false no_homes_on (view core)) }
     ensures quiet { IfOk result (λ core. IsQuiet (view core)) }
+    ensures globals { IfOk result (λ core. length (view core).globals ≡ 1) }
     ensures threads { IfOk result (λ core. length (view core).held ≡ 2) }
     ensures forwards { IfOk result (λ core. length (view core).forward ≤ 16) }
     ensures history { IfOk result (λ core. (view core).log ≡ []) }
@@ -106,6 +107,7 @@ fn new_core(alloc: Global, words: u32) -> Result<Core, NoMemory>
     requires { words < 2 ^ 30 }
     ensures stands { IfOk result (λ core. Standing false no_homes_on (view core)) }
     ensures quiet { IfOk result (λ core. IsQuiet (view core)) }
+    ensures globals { IfOk result (λ core. length (view core).globals ≡ 1) }
     ensures threads { IfOk result (λ core. length (view core).held ≡ 2) }
     ensures forwards { IfOk result (λ core. length (view core).forward ≤ 16) }
     ensures history { IfOk result (λ core. (view core).log ≡ []) }
@@ -173,9 +175,11 @@ fn paused(thread: u32, op: Op, events: u32, pause: Pause) -> Wanted {
 }
 
 /// Makes calls one after the other, and compares what they come to.
-fn expect<R: Abort>(rt: &R, core: &mut Core, calls: &[Wanted])
+fn expect(core: &mut Core, calls: &[Wanted]) -> Result<(), Fail>
     requires stands { Standing false no_homes_on (view core.old) }
     requires quiet { IsQuiet (view core.old) }
+    requires globals { length (view core.old).globals ≡ 1 }
+    requires threads { length (view core.old).held ≡ 2 }
     requires forwards { length (view core.old).forward ≤ 16 }
     requires room { length (view core.old).log + length calls.now ≤ (view core.old).capacity }
     requires few { length (view core.old).log + length calls.now ≤ 2 ^ 32 }
@@ -183,52 +187,54 @@ fn expect<R: Abort>(rt: &R, core: &mut Core, calls: &[Wanted])
     ensures quiet { IsQuiet (view core.new) }
     ensures threads { length (view core.new).held ≡ length (view core.old).held }
 {
-    let globals = core.heap.globals.items.len();
     for (at, wanted) in calls.iter().enumerate() {
-        assert!(rt; is_in_bounds(globals, wanted.op));
-        let threads = core.rest.held.len();
-        assert!(rt; (wanted.thread as usize) < threads);
+        if wanted.thread >= 2 || !is_in_bounds(1, wanted.op) {
+            return Err(Fail::new(format_args!("call {at} is out of bounds")));
+        }
         let (events, result) = run_call(core, wanted.thread, wanted.op);
-        assert_eq!(rt; result, wanted.result, "at {at}");
-        assert_eq!(rt; events, wanted.events, "at {at}");
+        same((at, events, result), (at, wanted.events, wanted.result))?;
     }
+    Ok(())
 }
 
-/// Makes one object, and reads and writes its parts. Each call but one has an entry in the history.
-fn expect_parts<R: Abort>(rt: &R, core: &mut Core)
-    requires stands { Standing false no_homes_on (view core.old) }
-    requires quiet { IsQuiet (view core.old) }
-    requires forwards { length (view core.old).forward ≤ 16 }
-    requires history { (view core.old).log ≡ [] }
-    requires room { 32 ≤ (view core.old).capacity }
+/// Makes one object, and reads and writes its parts, and answers how many entries of a history are stored behind that.
+/// Each call but one has an entry.
+fn entries_of_parts(mut core: Core) -> Result<usize, Fail>
+    requires stands { Standing false no_homes_on (view core) }
+    requires quiet { IsQuiet (view core) }
+    requires globals { length (view core).globals ≡ 1 }
+    requires threads { length (view core).held ≡ 2 }
+    requires forwards { length (view core).forward ≤ 16 }
+    requires history { (view core).log ≡ [] }
+    requires room { 32 ≤ (view core).capacity }
 {
     let calls = [
         answered(0, new(0, 1, 2), 7, Reply::Done),
         answered(0, load(1, 0, 0), 3, Reply::Null),
         answered(0, store(0, 0, 0), 3, Reply::Done),
         answered(0, load(1, 0, 0), 3, Reply::Ref),
-        answered(0, same(0, 1), 1, Reply::Yes),
+        answered(0, compare(0, 1), 1, Reply::Yes),
         answered(0, get(1, 1), 3, Reply::Num(0)),
         answered(0, put(0, 1, 7), 3, Reply::Done),
         answered(0, get(1, 1), 3, Reply::Num(7)),
         answered(0, get(1, 0), 3, Reply::Num(0)),
     ];
-    expect(rt, core, &calls);
+    expect(&mut core, &calls)?;
+    let (_, rest) = core.finish();
+    Ok(rest.into_history().items.len())
 }
 
 #[test]
 fn what_was_put_and_stored_is_found(rt: HostRuntime) -> Result<(), Fail> {
-    let mut core = core_over(rt.alloc(), 5, true)?;
-    expect_parts(&rt, &mut core);
-    assert_eq!(rt; core.rest.log.len(), 8);
+    let core = core_over(rt.alloc(), 5, true)?;
+    same(entries_of_parts(core)?, 8)?;
     Ok(())
 }
 
 #[test]
 fn it_is_found_where_no_history_is_stored(rt: HostRuntime) -> Result<(), Fail> {
-    let mut core = core_over(rt.alloc(), 5, false)?;
-    expect_parts(&rt, &mut core);
-    assert_eq!(rt; core.rest.log.len(), 0);
+    let core = core_over(rt.alloc(), 5, false)?;
+    same(entries_of_parts(core)?, 0)?;
     Ok(())
 }
 
@@ -243,7 +249,7 @@ fn a_part_that_is_not_there_is_out_of_range(rt: HostRuntime) -> Result<(), Fail>
         answered(0, put(0, 1, 7), 2, Reply::Range),
         answered(0, get(0, 0), 3, Reply::Num(0)),
     ];
-    expect(&rt, &mut core, &calls);
+    expect(&mut core, &calls)?;
     Ok(())
 }
 
@@ -253,18 +259,20 @@ fn registers_are_copied_and_dropped(rt: HostRuntime) -> Result<(), Fail> {
     let calls = [
         answered(1, new(0, 0, 1), 5, Reply::Done),
         answered(1, Op::Copy { dst: 15, src: 0 }, 1, Reply::Done),
-        answered(1, same(0, 15), 1, Reply::Yes),
+        answered(1, compare(0, 15), 1, Reply::Yes),
         answered(1, Op::Drop { r: 0 }, 1, Reply::Done),
-        answered(1, same(0, 15), 1, Reply::No),
+        answered(1, compare(0, 15), 1, Reply::No),
         answered(1, load(1, 0, 0), 1, Reply::Nil),
         answered(1, store(0, 0, 15), 1, Reply::Nil),
         answered(1, get(0, 0), 1, Reply::Nil),
         answered(1, put(0, 0, 7), 1, Reply::Nil),
         answered(1, get(15, 0), 3, Reply::Num(0)),
     ];
-    expect(&rt, &mut core, &calls);
+    expect(&mut core, &calls)?;
     core.drop_all(1);
-    assert_eq!(rt; core.rest.held[1].regs, [0; 16]);
+    let (_, mut rest) = core.finish();
+    let none = Registers { regs: [0; 16] };
+    same(rest.registers().get(1).copied(), Some(none))?;
     Ok(())
 }
 
@@ -282,7 +290,7 @@ fn threads_share_what_a_global_holds(rt: HostRuntime) -> Result<(), Fail> {
         answered(0, get(0, 0), 3, Reply::Num(4)),
         answered(1, get(0, 0), 1, Reply::Nil),
     ];
-    expect(&rt, &mut core, &calls);
+    expect(&mut core, &calls)?;
     Ok(())
 }
 
@@ -293,15 +301,20 @@ fn an_object_that_does_not_fit_stops_the_threads(rt: HostRuntime) -> Result<(), 
         paused(0, new(0, 2, 2), 3, Pause::Space { need: 6 }),
         paused(1, gload(0, 0), 1, Pause::Asked),
         paused(0, new(0, 0, 0), 1, Pause::Asked),
-        answered(0, same(0, 1), 1, Reply::Yes),
+        answered(0, compare(0, 1), 1, Reply::Yes),
     ];
-    expect(&rt, &mut core, &calls);
-    assert!(rt; core.is_stopped());
-    assert_eq!(rt; core.used(), 6);
+    expect(&mut core, &calls)?;
+    same(core.is_stopped(), true)?;
+    same(core.used(), 6)?;
     let (heap, rest) = core.finish();
-    assert_eq!(rt; heap.space.used(), 5);
-    assert_eq!(rt; rest.into_history().items.len(), 0);
+    same(heap.space.used(), 5)?;
+    same(rest.into_history().items.len(), 0)?;
     Ok(())
+}
+
+/// What the first register of a thread holds.
+fn first_register(rest: &mut Rest, thread: usize) -> Option<u32> {
+    Some(rest.registers().get(thread)?.regs[0])
 }
 
 #[test]
@@ -317,20 +330,22 @@ fn objects_that_are_made_at_once_stand_apart(rt: HostRuntime) -> Result<(), Fail
         };
         let first = advance(&mut core, 0, op);
         let second = advance(&mut core, 1, op);
-        assert_eq!(rt; first, wanted, "after {events}");
-        assert_eq!(rt; second, wanted, "after {events}");
+        same((events, first, second), (events, wanted, wanted))?;
     }
-    let addresses = [core.rest.held[0].regs[0], core.rest.held[1].regs[0]];
-    assert_eq!(rt; addresses, [1, 5]);
+    same(core.is_free(0), true)?;
+    same(core.is_free(1), true)?;
+    let (_, mut rest) = core.finish();
+    same(first_register(&mut rest, 0), Some(1))?;
+    same(first_register(&mut rest, 1), Some(5))?;
     let entries = [Entry { thread: 0, act }, Entry { thread: 1, act }];
-    assert_eq!(rt; core.rest.log.as_slice(), entries.as_slice());
+    same(rest.into_history().items.as_slice(), entries.as_slice())?;
     Ok(())
 }
 
 #[test]
 fn what_registers_hold_is_counted_once(rt: HostRuntime) -> Result<(), Fail> {
     let mut core = new_core(rt.alloc(), 10)?;
-    assert_eq!(rt; core.held(), 0);
+    same(core.held(), 0)?;
     let calls = [
         answered(0, new(0, 1, 2), 7, Reply::Done),
         answered(0, gstore(0, 0), 2, Reply::Done),
@@ -340,10 +355,10 @@ fn what_registers_hold_is_counted_once(rt: HostRuntime) -> Result<(), Fail> {
         answered(0, new(1, 0, 0), 4, Reply::Done),
         answered(0, Op::Drop { r: 1 }, 1, Reply::Done),
     ];
-    expect(&rt, &mut core, &calls);
-    assert_eq!(rt; core.held(), 8);
+    expect(&mut core, &calls)?;
+    same(core.held(), 8)?;
     core.drop_all(1);
-    assert_eq!(rt; core.held(), 5);
+    same(core.held(), 5)?;
     Ok(())
 }
 
@@ -390,25 +405,28 @@ fn entries_of_calls() -> [Entry; 8] {
 #[test]
 fn the_history_has_the_entries_of_calls_in_order(rt: HostRuntime) -> Result<(), Fail> {
     let mut core = new_core(rt.alloc(), 9)?;
-    expect(&rt, &mut core, &calls_with_entries());
+    expect(&mut core, &calls_with_entries())?;
     let (heap, rest) = core.finish();
-    assert_eq!(rt; heap.space.used(), 6);
-    assert_eq!(rt;
+    same(heap.space.used(), 6)?;
+    same(
         rest.into_history().items.as_slice(),
-        entries_of_calls().as_slice()
-    );
+        entries_of_calls().as_slice(),
+    )?;
     Ok(())
 }
 
 #[test]
 fn a_call_in_one_go_is_answered(rt: HostRuntime) -> Result<(), Fail> {
     let mut core = new_core(rt.alloc(), 5)?;
-    assert!(rt; core.is_free(0));
+    same(core.is_free(0), true)?;
     let result = core.call_at_once(0, new(0, 1, 2));
-    assert_eq!(rt; result, StepResult::Answered(Reply::Done));
-    assert_eq!(rt; core.used(), 5);
+    same(result, StepResult::Answered(Reply::Done))?;
+    same(core.used(), 5)?;
+    same(core.is_free(0), true)?;
+    same(core.is_free(1), true)?;
+    let (_, rest) = core.finish();
     let act = Act::Make { refs: 1, nums: 2 };
     let entries = [Entry { thread: 0, act }];
-    assert_eq!(rt; core.rest.log.as_slice(), entries.as_slice());
+    same(rest.into_history().items.as_slice(), entries.as_slice())?;
     Ok(())
 }
