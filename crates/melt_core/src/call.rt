@@ -12,7 +12,7 @@ use melt_word::{Ref, Shape};
 pub(crate) const MAX_REST: usize = 124;
 
 /// Where the word of a reference stands.
-#[derive(Clone, Copy, Debug, PartialEq, Eq)]
+#[derive(Clone, Copy)]
 pub enum Place {
     /// In reference slot `i` of the object at the address `object`.
     Field { object: u32, i: u8 },
@@ -21,7 +21,7 @@ pub enum Place {
 }
 
 /// What an operation does with a part of an object: with a reference slot `i`, or with a number word `j`.
-#[derive(Clone, Copy, Debug, PartialEq, Eq)]
+#[derive(Clone, Copy)]
 pub enum Access {
     /// Loads the slot into register `dst`.
     Load { dst: u8, i: u8 },
@@ -46,7 +46,7 @@ impl Access {
 }
 
 /// What an operation does with the words that threads share.
-#[derive(Clone, Copy, Debug, PartialEq, Eq)]
+#[derive(Clone, Copy)]
 pub enum Task {
     /// Makes an object of this shape, and puts it into register `dst`.
     Make { dst: u8, shape: Shape },
@@ -60,7 +60,7 @@ pub enum Task {
 
 /// The search for the object of a home, by the forwarding words: so many of them were read, and each names another
 /// home. The home was found at the place, in a load into register `dst`.
-#[derive(Clone, Copy, Debug, PartialEq, Eq)]
+#[derive(Clone, Copy)]
 pub struct Search {
     pub place: Place,
     pub home: u32,
@@ -95,7 +95,7 @@ impl Search {
 
 /// How an object comes back: the words from the address on are for a copy of the Body, of this shape, at the home that
 /// is searched for.
-#[derive(Clone, Copy, Debug, PartialEq, Eq)]
+#[derive(Clone, Copy)]
 pub struct Activation {
     pub search: Search,
     pub address: u32,
@@ -116,7 +116,7 @@ impl Activation {
 }
 
 /// How far a call has come, and what it knows.
-#[derive(Clone, Copy, Debug, PartialEq, Eq)]
+#[derive(Clone, Copy)]
 pub enum Stage {
     /// The stop word was not set.
     Polled {
@@ -194,7 +194,7 @@ pub enum Stage {
 }
 
 /// A call in flight: its operation, and the stage that it has reached.
-#[derive(Clone, Copy, Debug, PartialEq, Eq)]
+#[derive(Clone, Copy)]
 pub struct Call {
     pub op: Op,
     pub stage: Stage,

@@ -17,7 +17,7 @@ use std::alloc::Global;
 ///
 /// The history is stored in `log` where the heap keeps names, without which no entry can be written down. Else it is
 /// `told`, to contracts alone.
-#[derive(Debug, Drop)]
+#[derive(Drop)]
 pub struct Rest {
     pub(crate) held: Vec<Registers>,
     pub(crate) calls: Vec<Option<Call>>,
@@ -61,7 +61,7 @@ impl Rest {
 }
 
 /// A heap in an epoch, over which calls of threads go on by events.
-#[derive(Debug, Drop)]
+#[derive(Drop)]
 pub struct Core {
     pub(crate) heap: Heap,
     pub(crate) rest: Rest,

@@ -19,7 +19,7 @@ use melt_forward::{pack, unpack};
 use melt_model::Op;
 
 /// What the forwarding word that a search has come to tells of its home.
-#[derive(Clone, Copy, Debug, PartialEq, Eq)]
+#[derive(Clone, Copy)]
 pub(crate) enum Probe {
     /// It sends the home to this address.
     At(u32),

@@ -20,7 +20,7 @@ use melt_rule::{Seated, Words};
 use melt_scion::Heap;
 
 /// Where a search for a home ended.
-#[derive(Clone, Copy, Debug, PartialEq, Eq)]
+#[derive(Clone, Copy)]
 pub enum Sought {
     /// A forwarding word sends the home to this address.
     At(u32),

@@ -17,7 +17,7 @@ use melt_word::Shape;
 pub(crate) const MAX_REST: usize = 124;
 
 /// What the record of a home holds.
-#[derive(Clone, Copy, Debug, PartialEq, Eq)]
+#[derive(Clone, Copy)]
 pub(crate) enum Fetched {
     /// A Stub, whose live scion leads to the object at the address `target`.
     Stub { scion: u32, target: u32 },

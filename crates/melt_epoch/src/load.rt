@@ -127,7 +127,7 @@ pub(crate) fn resolve<R: RecordReader>(
 }
 
 /// What a load of a slot comes to.
-#[derive(Clone, Copy, Debug, PartialEq, Eq)]
+#[derive(Clone, Copy)]
 pub(crate) enum Loaded {
     /// The register holds nothing.
     Nil,

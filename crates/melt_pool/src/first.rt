@@ -21,7 +21,7 @@ use melt_model::Reply;
 use melt_safepoint::thread::ThreadState;
 
 /// What the call comes to that is made first.
-#[derive(Clone, Copy, Debug, PartialEq, Eq)]
+#[derive(Clone, Copy)]
 pub(crate) enum First {
     /// It was answered, or its thread has ended.
     Went,
