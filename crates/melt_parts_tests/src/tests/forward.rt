@@ -1,7 +1,9 @@
-use melt_forward::*;
+use melt_forward::{Found, find, pack, unpack};
+use melt_same::same;
+use std::test::Fail;
 
 #[test]
-fn words_of_pairs(rt: HostRuntime) {
+fn words_of_pairs() -> Result<(), Fail> {
     for (home, address, word) in [
         (1, 1, 4_294_967_300),
         (1, 2, 4_294_967_304),
@@ -9,23 +11,23 @@ fn words_of_pairs(rt: HostRuntime) {
         (1, 1_073_741_823, 8_589_934_588),
         (4_294_967_295, 1, 18_446_744_069_414_584_324),
     ] {
-        assert_eq!(rt; pack(home, address), word, "of {home} and {address}");
+        let pair = (home, address);
+        same((pair, pack(home, address)), (pair, word))?;
     }
+    Ok(())
 }
 
 #[test]
-fn pairs_of_words(rt: HostRuntime) {
-    assert_eq!(rt; unpack(0), None);
-    assert_eq!(rt; unpack(4_294_967_300), Some((1, 1)));
-    assert_eq!(rt; unpack(8_589_934_588), Some((1, 1_073_741_823)));
-    assert_eq!(rt;
-        unpack(18_446_744_069_414_584_324),
-        Some((4_294_967_295, 1))
-    );
+fn pairs_of_words() -> Result<(), Fail> {
+    same(unpack(0), None)?;
+    same(unpack(4_294_967_300), Some((1, 1)))?;
+    same(unpack(8_589_934_588), Some((1, 1_073_741_823)))?;
+    same(unpack(18_446_744_069_414_584_324), Some((4_294_967_295, 1)))?;
+    Ok(())
 }
 
 #[test]
-fn a_home_is_found_at_its_address(rt: HostRuntime) {
+fn a_home_is_found_at_its_address() -> Result<(), Fail> {
     let words = [4_294_967_304, 17_179_869_196, 0];
     for (home, want) in [
         (1, Found::At(2)),
@@ -33,12 +35,13 @@ fn a_home_is_found_at_its_address(rt: HostRuntime) {
         (2, Found::Empty(2)),
         (4_294_967_295, Found::Empty(2)),
     ] {
-        assert_eq!(rt; find(&words, home), want, "of {home}");
+        same((home, find(&words, home)), (home, want))?;
     }
+    Ok(())
 }
 
 #[test]
-fn a_search_goes_on_past_gaps(rt: HostRuntime) {
+fn a_search_goes_on_past_gaps() -> Result<(), Fail> {
     let words = [4_294_967_304, 0, 17_179_869_196, 0, 8_589_934_596];
     for (home, want) in [
         (1, Found::At(2)),
@@ -46,25 +49,28 @@ fn a_search_goes_on_past_gaps(rt: HostRuntime) {
         (2, Found::At(1)),
         (3, Found::Empty(1)),
     ] {
-        assert_eq!(rt; find(&words, home), want, "of {home}");
+        same((home, find(&words, home)), (home, want))?;
     }
     let last = [4_294_967_304, 8_589_934_596, 0];
-    assert_eq!(rt; find(&last, 3), Found::Empty(2));
+    same(find(&last, 3), Found::Empty(2))?;
     let first = [0, 4_294_967_304];
-    assert_eq!(rt; find(&first, 2), Found::Empty(0));
+    same(find(&first, 2), Found::Empty(0))?;
+    Ok(())
 }
 
 #[test]
-fn no_word_is_empty(rt: HostRuntime) {
+fn no_word_is_empty() -> Result<(), Fail> {
     let words = [4_294_967_304, 8_589_934_596];
-    assert_eq!(rt; find(&words, 1), Found::At(2));
-    assert_eq!(rt; find(&words, 2), Found::At(1));
-    assert_eq!(rt; find(&words, 3), Found::Full);
-    assert_eq!(rt; find(&[], 1), Found::Full);
+    same(find(&words, 1), Found::At(2))?;
+    same(find(&words, 2), Found::At(1))?;
+    same(find(&words, 3), Found::Full)?;
+    same(find(&[], 1), Found::Full)?;
+    Ok(())
 }
 
 #[test]
-fn the_first_of_two_words_of_a_home_is_found(rt: HostRuntime) {
+fn the_first_of_two_words_of_a_home_is_found() -> Result<(), Fail> {
     let words = [0, 4_294_967_304, 4_294_967_300];
-    assert_eq!(rt; find(&words, 1), Found::At(2));
+    same(find(&words, 1), Found::At(2))?;
+    Ok(())
 }

@@ -1,9 +1,11 @@
-use melt_policy::*;
 use melt_model::Phase::{Inactive, Mark, Move};
+use melt_policy::next_phase;
+use melt_same::same;
+use std::test::Fail;
 
 /// Each row has the phases that are wanted after Inactive, Mark and Move.
 #[test]
-fn phases_by_the_rule(rt: HostRuntime) {
+fn phases_by_the_rule() -> Result<(), Fail> {
     let top = u32::MAX;
     for (live, heap, mark, move_, wanted) in [
         // each side of both borders, and an empty and a full heap
@@ -39,11 +41,10 @@ fn phases_by_the_rule(rt: HostRuntime) {
         (top, top, top, 0, [Inactive, Inactive, Inactive]),
     ] {
         for (last, want) in [Inactive, Mark, Move].into_iter().zip(wanted) {
-            assert_eq!(rt;
-                next_phase(live, heap, last, mark, move_),
-                want,
-                "{live} of {heap} words after {last:?}, with {mark} and {move_}"
-            );
+            let row = (live, heap, last, mark, move_);
+            let found = next_phase(live, heap, last, mark, move_);
+            same((row, found), (row, want))?;
         }
     }
+    Ok(())
 }

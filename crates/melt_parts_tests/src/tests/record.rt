@@ -1,6 +1,8 @@
-use melt_record::*;
+use melt_record::{Damaged, Head, Kind, decode_head, decode_rest, encode_body, encode_stub};
+use melt_same::same;
 use melt_word::Shape;
 use std::fmt::InlineText;
+use std::test::Fail;
 
 const SHAPE: Shape = Shape { refs: 0, nums: 1 };
 
@@ -9,31 +11,33 @@ fn damaged(at: u32, word: u64) -> Damaged {
 }
 
 #[test]
-fn words_of_a_body(rt: HostRuntime) {
+fn words_of_a_body() -> Result<(), Fail> {
     let mut out = [9; 3];
     encode_body(1, SHAPE, &[7], &mut out);
-    assert_eq!(rt; out, [4_295_032_833, 0, 7]);
+    same(out, [4_295_032_833, 0, 7])?;
     let head = Head {
         shape: SHAPE,
         kind: Kind::Body,
     };
-    assert_eq!(rt; decode_head(1, 4, [4_295_032_833, 0]), Ok(head));
+    same(decode_head(1, 4, [4_295_032_833, 0]), Ok(head))?;
+    Ok(())
 }
 
 #[test]
-fn words_of_a_stub(rt: HostRuntime) {
+fn words_of_a_stub() -> Result<(), Fail> {
     let mut out = [7; 2];
     encode_stub(1, SHAPE, 1, &mut out);
-    assert_eq!(rt; out, [4_295_032_834, 1]);
+    same(out, [4_295_032_834, 1])?;
     let head = Head {
         shape: SHAPE,
         kind: Kind::Stub { scion: 1 },
     };
-    assert_eq!(rt; decode_head(1, 4, [4_295_032_834, 1]), Ok(head));
+    same(decode_head(1, 4, [4_295_032_834, 1]), Ok(head))?;
+    Ok(())
 }
 
 #[test]
-fn heads_that_are_refused(rt: HostRuntime) {
+fn heads_that_are_refused() -> Result<(), Fail> {
     for (end, words, at) in [
         (3, [4_295_032_833, 0], 0),
         (4, [0, 0], 0),
@@ -46,26 +50,29 @@ fn heads_that_are_refused(rt: HostRuntime) {
     ] {
         let word = if at == 0 { words[0] } else { words[1] };
         let found = decode_head(1, end, words);
-        assert_eq!(rt; found, Err(damaged(at, word)), "at {word}");
+        same((word, found), (word, Err(damaged(at, word))))?;
     }
+    Ok(())
 }
 
 #[test]
-fn slots_of_a_body(rt: HostRuntime) {
+fn slots_of_a_body() -> Result<(), Fail> {
     let one_ref = Shape { refs: 1, nums: 0 };
-    assert_eq!(rt; decode_rest(1, 4, one_ref, &[4]), Err(damaged(2, 4)));
+    same(decode_rest(1, 4, one_ref, &[4]), Err(damaged(2, 4)))?;
     let shape = Shape { refs: 2, nums: 1 };
-    assert_eq!(rt; decode_rest(1, 4, shape, &[0, 15, 4]), Ok(()));
+    same(decode_rest(1, 4, shape, &[0, 15, 4]), Ok(()))?;
     for word in [4, 19] {
         let found = decode_rest(1, 4, shape, &[7, word, 0]);
-        assert_eq!(rt; found, Err(damaged(3, word)), "at {word}");
+        same((word, found), (word, Err(damaged(3, word))))?;
     }
+    Ok(())
 }
 
 #[test]
-fn text_of_damage(rt: HostRuntime) {
-    assert_eq!(rt;
+fn text_of_damage() -> Result<(), Fail> {
+    same(
         InlineText::<64>::of(damaged(3, 19)).as_str(),
-        "record of home 1 is damaged at word 3: 19"
-    );
+        "record of home 1 is damaged at word 3: 19",
+    )?;
+    Ok(())
 }

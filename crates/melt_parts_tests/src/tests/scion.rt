@@ -2,7 +2,8 @@ mod home_names;
 mod maps;
 mod scions;
 
-use melt_scion::*;
+use melt_same::same;
+use melt_scion::{AddressNames, Heap};
 use std::test::Fail;
 
 #[test]
@@ -18,10 +19,10 @@ fn an_address_has_the_name_that_was_set(rt: HostRuntime) -> Result<(), Fail> {
         (4, None),
         (u32::MAX, None),
     ] {
-        assert_eq!(rt; names.get(address), want, "at {address}");
+        same((address, names.get(address)), (address, want))?;
     }
     names.set(2, 1);
-    assert_eq!(rt; names.get(2), Some(1));
+    same(names.get(2), Some(1))?;
     Ok(())
 }
 
@@ -29,16 +30,16 @@ fn an_address_has_the_name_that_was_set(rt: HostRuntime) -> Result<(), Fail> {
 fn a_new_heap_has_names_where_they_were_asked_for(rt: HostRuntime) -> Result<(), Fail> {
     for named in [false, true] {
         let heap = Heap::new(rt.alloc(), 5, 2, 3, named)?;
-        assert_eq!(rt; heap.space.words(), 5);
-        assert_eq!(rt; heap.space.used(), 0);
-        assert_eq!(rt; heap.globals.items.as_slice(), [0, 0].as_slice());
-        assert_eq!(rt; heap.forward.items.as_slice(), [0, 0, 0].as_slice());
-        assert_eq!(rt; heap.scions.first(), None);
-        assert_eq!(rt; heap.names.is_some(), named);
+        same(heap.space.words(), 5)?;
+        same(heap.space.used(), 0)?;
+        same(heap.globals.items.as_slice(), [0, 0].as_slice())?;
+        same(heap.forward.items.as_slice(), [0, 0, 0].as_slice())?;
+        same(heap.scions.first(), None)?;
+        same(heap.names.is_some(), named)?;
         if let Some(names) = &heap.names {
             for address in 0..=6 {
-                assert_eq!(rt; names.addresses.get(address), None, "at {address}");
-                assert_eq!(rt; names.homes.get(address), None, "at {address}");
+                same((address, names.addresses.get(address)), (address, None))?;
+                same((address, names.homes.get(address)), (address, None))?;
             }
         }
     }
@@ -52,10 +53,10 @@ fn the_first_names_are_cleared(rt: HostRuntime) -> Result<(), Fail> {
     names.set(2, 6);
     names.set(3, 7);
     names.clear(0);
-    assert_eq!(rt; names.get(1), Some(5));
+    same(names.get(1), Some(5))?;
     names.clear(2);
     for (address, want) in [(0, None), (1, None), (2, None), (3, Some(7)), (4, None)] {
-        assert_eq!(rt; names.get(address), want, "at {address}");
+        same((address, names.get(address)), (address, want))?;
     }
     Ok(())
 }

@@ -1,7 +1,8 @@
 ghost use Rattle.std.specs.Prelude.{◌≡◌, Some};
 ghost use Rattle.melt_scion.specs.GhostMaps.{named, numbered};
 
-use melt_scion::*;
+use melt_same::same;
+use melt_scion::GhostMaps;
 use std::mem::size_of;
 use std::test::Fail;
 
@@ -21,8 +22,8 @@ fn crosses<T: Send + Sync>(value: T) -> T {
 #[test]
 fn maps_take_no_bytes_and_cross_threads(rt: HostRuntime) -> Result<(), Fail> {
     let maps = crosses(with_number(GhostMaps::none(), 3, 7));
-    assert_eq!(rt; size_of::<GhostMaps>(), 0);
+    same(size_of::<GhostMaps>(), 0)?;
     let text = format!(in rt.alloc(); "{maps:?}")?;
-    assert_eq!(rt; text.as_str(), "GhostMaps");
+    same(text.as_str(), "GhostMaps")?;
     Ok(())
 }

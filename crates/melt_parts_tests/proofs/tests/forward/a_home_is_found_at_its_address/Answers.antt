@@ -3,4 +3,4 @@ use Rattle.melt_parts_tests.proofs.Written.{told_by_test}
 use Rattle.melt_parts_tests.proofs.tests.forward.a_home_is_found_at_its_address.Goals as goal
 
 pub find-requires-clause-words : goal.find-requires-clause-words
-find-requires-clause-words g c = told_by_test (4294967304 ∷ 17179869196 ∷ 0 ∷ []) refl
+find-requires-clause-words c = told_by_test (4294967304 ∷ 17179869196 ∷ 0 ∷ []) refl

@@ -3,7 +3,7 @@ use Rattle.melt_parts_tests.proofs.Written.{told_by_test}
 use Rattle.melt_parts_tests.proofs.tests.forward.no_word_is_empty.Goals as goal
 
 pub find-requires-clause-words : goal.find-requires-clause-words
-find-requires-clause-words g c = told_by_test (4294967304 ∷ 8589934596 ∷ []) refl
+find-requires-clause-words c = told_by_test (4294967304 ∷ 8589934596 ∷ []) refl
 
 pub find-requires-2-clause-words : goal.find-requires-2-clause-words
-find-requires-2-clause-words g c = told_by_test (4294967304 ∷ 8589934596 ∷ []) refl
+find-requires-2-clause-words c = told_by_test (4294967304 ∷ 8589934596 ∷ []) refl

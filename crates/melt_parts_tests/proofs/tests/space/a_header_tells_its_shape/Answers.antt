@@ -4,7 +4,7 @@ use Rattle.melt_parts_tests.proofs.tests.space.a_header_tells_its_shape.Goals as
 
 -- the word that was put there is that of a header
 pub shape-requires-clause-header : goal.shape-requires-clause-header
-shape-requires-clause-header g c =
+shape-requires-clause-header c =
     has_header _ 1 (record { shape = record { refs = 2; nums = 1 }; stale = true })
     (record { refs = lit≤ tt; nums = lit≤ tt })
     (c.set_word.ensures.here ∙ c.encode_header.ensures)
