@@ -1,5 +1,6 @@
-//! Tests of `melt_core`: what calls come to, event by event, and what they leave in the registers, the words and the history. They
-//! stand in a crate of their own, which sees of that one what is public, so that a change of a test proves no function of it anew.
+//! Tests of `melt_core`: what each event of a call comes to, and what calls leave in registers, in words and in the
+//! history. They stand in a crate of their own, which sees what is public alone, so that a changed test has nothing of
+//! `melt_core` proved anew.
 #![tactic(auto)]
 
 #[cfg(test)]

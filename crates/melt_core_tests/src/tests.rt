@@ -312,6 +312,17 @@ fn an_object_that_does_not_fit_stops_the_threads(rt: HostRuntime) -> Result<(), 
     Ok(())
 }
 
+/// Ends an epoch of two threads, of which none may have a call in flight.
+fn finish_free(core: Core) -> Result<Rest, Fail>
+    requires stands { Standing false no_homes_on (view core) }
+    requires threads { length (view core).held ≡ 2 }
+{
+    same(core.is_free(0), true)?;
+    same(core.is_free(1), true)?;
+    let (_, rest) = core.finish();
+    Ok(rest)
+}
+
 /// What the first register of a thread holds.
 fn first_register(rest: &mut Rest, thread: usize) -> Option<u32> {
     Some(rest.registers().get(thread)?.regs[0])
@@ -332,9 +343,7 @@ fn objects_that_are_made_at_once_stand_apart(rt: HostRuntime) -> Result<(), Fail
         let second = advance(&mut core, 1, op);
         same((events, first, second), (events, wanted, wanted))?;
     }
-    same(core.is_free(0), true)?;
-    same(core.is_free(1), true)?;
-    let (_, mut rest) = core.finish();
+    let mut rest = finish_free(core)?;
     same(first_register(&mut rest, 0), Some(1))?;
     same(first_register(&mut rest, 1), Some(5))?;
     let entries = [Entry { thread: 0, act }, Entry { thread: 1, act }];
@@ -422,9 +431,7 @@ fn a_call_in_one_go_is_answered(rt: HostRuntime) -> Result<(), Fail> {
     let result = core.call_at_once(0, new(0, 1, 2));
     same(result, StepResult::Answered(Reply::Done))?;
     same(core.used(), 5)?;
-    same(core.is_free(0), true)?;
-    same(core.is_free(1), true)?;
-    let (_, rest) = core.finish();
+    let rest = finish_free(core)?;
     let act = Act::Make { refs: 1, nums: 2 };
     let entries = [Entry { thread: 0, act }];
     same(rest.into_history().items.as_slice(), entries.as_slice())?;

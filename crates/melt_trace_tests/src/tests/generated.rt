@@ -1,23 +1,28 @@
 ghost use Rattle.std.specs.Prelude.{◌≤◌};
 
 use melt_gen::{GenRefusal, Workload, generate};
+use melt_same::same;
 use melt_trace::print;
+use std::alloc::Global;
 use std::test::Fail;
 
-/// Whether the text of a trace begins and ends with these lines. Thread 0 draws from the largest seed, thread 1 from 0.
-fn has_ends(
-    rt: &HostRuntime,
+/// Sees whether the text of a trace begins and ends with these lines. Thread 0 draws from the largest seed, thread 1
+/// from 0.
+fn expect_ends(
+    alloc: Global,
     kind: Workload,
     size: u32,
     threads: u32,
     ends: (&[u8], &[u8]),
-) -> Result<bool, Fail>
+) -> Result<(), Fail>
     requires size { (1 ≤ size) × (size ≤ 100000) }
     requires threads { (1 ≤ threads) × (threads ≤ 8) }
 {
-    let trace = generate(rt.alloc(), kind, u64::MAX, size, threads)?;
-    let text = print(rt.alloc(), &trace)?;
-    Ok(text.starts_with(ends.0) && text.ends_with(ends.1))
+    let trace = generate(alloc, kind, u64::MAX, size, threads)?;
+    let text = print(alloc, &trace)?;
+    same((threads, text.starts_with(ends.0)), (threads, true))?;
+    same((threads, text.ends_with(ends.1)), (threads, true))?;
+    Ok(())
 }
 
 #[test]
@@ -32,7 +37,7 @@ fn lists(rt: HostRuntime) -> Result<(), Fail> {
             load 1 1 0\nget 1 0\nload 1 1 0\nget 1 0\ndrop 0\ndrop 1\ndone\n"
             .as_slice(),
     );
-    assert!(rt; has_ends(&rt, Workload::List, 2, 1, ends)?);
+    expect_ends(rt.alloc(), Workload::List, 2, 1, ends)?;
     let ends = (
         b"melt 1\nthreads 2\nglobals 2\nthread 0\n".as_slice(),
         b"thread 1\nnew 0 1 2\nput 0 0 0\nput 0 1 16294208416658607535\ngload 1 1\n\
@@ -43,7 +48,7 @@ fn lists(rt: HostRuntime) -> Result<(), Fail> {
             drop 0\ndrop 1\ndone\n"
             .as_slice(),
     );
-    assert!(rt; has_ends(&rt, Workload::List, 2, 2, ends)?);
+    expect_ends(rt.alloc(), Workload::List, 2, 2, ends)?;
     let ends = (
         b"melt 1\nthreads 8\nglobals 8\nthread 0\n".as_slice(),
         b"store 0 0 1\ngstore 7 0\nget 0 0\ngload 1 7\nget 1 0\nload 1 1 0\nget 1 0\n\
@@ -51,7 +56,7 @@ fn lists(rt: HostRuntime) -> Result<(), Fail> {
             load 1 1 0\nget 1 0\nload 1 1 0\nget 1 0\ndrop 0\ndrop 1\ndone\n"
             .as_slice(),
     );
-    assert!(rt; has_ends(&rt, Workload::List, 2, 8, ends)?);
+    expect_ends(rt.alloc(), Workload::List, 2, 8, ends)?;
     Ok(())
 }
 
@@ -67,7 +72,7 @@ fn queues(rt: HostRuntime) -> Result<(), Fail> {
             load 2 2 0\ngstore 0 2\ndrop 0\ndrop 1\ndrop 2\ndone\n"
             .as_slice(),
     );
-    assert!(rt; has_ends(&rt, Workload::Queue, 4, 1, ends)?);
+    expect_ends(rt.alloc(), Workload::Queue, 4, 1, ends)?;
     let ends = (
         b"melt 1\nthreads 2\nglobals 4\nthread 0\n".as_slice(),
         b"thread 1\nnew 0 2 1\nput 0 0 0\ngload 1 3\nstore 1 0 0\nstore 0 1 1\ngstore 3 0\n\
@@ -77,14 +82,14 @@ fn queues(rt: HostRuntime) -> Result<(), Fail> {
             gstore 3 0\ngload 2 2\nload 2 2 0\ngstore 2 2\ndrop 0\ndrop 1\ndrop 2\ndone\n"
             .as_slice(),
     );
-    assert!(rt; has_ends(&rt, Workload::Queue, 4, 2, ends)?);
+    expect_ends(rt.alloc(), Workload::Queue, 4, 2, ends)?;
     let ends = (
         b"melt 1\nthreads 8\nglobals 16\nthread 0\n".as_slice(),
         b"gload 2 14\nload 2 2 0\ngstore 14 2\nnew 0 2 1\nput 0 0 3\ngload 1 15\nstore 1 0 0\n\
             store 0 1 1\ngstore 15 0\ndrop 0\ndrop 1\ndrop 2\ndone\n"
             .as_slice(),
     );
-    assert!(rt; has_ends(&rt, Workload::Queue, 4, 8, ends)?);
+    expect_ends(rt.alloc(), Workload::Queue, 4, 8, ends)?;
     Ok(())
 }
 
@@ -99,21 +104,21 @@ fn tables(rt: HostRuntime) -> Result<(), Fail> {
             drop 0\ndrop 1\ndrop 2\ndone\n"
             .as_slice(),
     );
-    assert!(rt; has_ends(&rt, Workload::Table, 16, 1, ends)?);
+    expect_ends(rt.alloc(), Workload::Table, 16, 1, ends)?;
     let ends = (
         b"melt 1\nthreads 2\nglobals 2\nthread 0\n".as_slice(),
         b"new 1 1 1\nput 1 0 15\nload 2 0 51\nstore 1 0 2\nstore 0 51 1\nload 2 0 1\nget 2 0\n\
             drop 0\ndrop 1\ndrop 2\ndone\n"
             .as_slice(),
     );
-    assert!(rt; has_ends(&rt, Workload::Table, 16, 2, ends)?);
+    expect_ends(rt.alloc(), Workload::Table, 16, 2, ends)?;
     let ends = (
         b"melt 1\nthreads 8\nglobals 8\nthread 0\n".as_slice(),
         b"new 1 1 1\nput 1 0 15\nload 2 0 4\nstore 1 0 2\nstore 0 4 1\nload 2 0 3\nget 2 0\n\
             drop 0\ndrop 1\ndrop 2\ndone\n"
             .as_slice(),
     );
-    assert!(rt; has_ends(&rt, Workload::Table, 16, 8, ends)?);
+    expect_ends(rt.alloc(), Workload::Table, 16, 8, ends)?;
     Ok(())
 }
 
@@ -130,7 +135,7 @@ fn trees(rt: HostRuntime) -> Result<(), Fail> {
             done\n"
             .as_slice(),
     );
-    assert!(rt; has_ends(&rt, Workload::Tree, 6, 1, ends)?);
+    expect_ends(rt.alloc(), Workload::Tree, 6, 1, ends)?;
     let ends = (
         b"melt 1\nthreads 2\nglobals 2\nthread 0\n".as_slice(),
         b"thread 1\nnew 0 2 1\nput 0 0 16294208416658607535\ngstore 1 0\ngload 0 1\n\
@@ -141,7 +146,7 @@ fn trees(rt: HostRuntime) -> Result<(), Fail> {
             put 1 0 6038094601263162090\nstore 0 0 1\ndrop 0\ndrop 1\ndone\n"
             .as_slice(),
     );
-    assert!(rt; has_ends(&rt, Workload::Tree, 6, 2, ends)?);
+    expect_ends(rt.alloc(), Workload::Tree, 6, 2, ends)?;
     let ends = (
         b"melt 1\nthreads 8\nglobals 8\nthread 0\n".as_slice(),
         b"load 0 0 0\nnew 1 2 1\nput 1 0 10159400350932864807\nstore 0 1 1\ngload 0 7\n\
@@ -149,24 +154,24 @@ fn trees(rt: HostRuntime) -> Result<(), Fail> {
             done\n"
             .as_slice(),
     );
-    assert!(rt; has_ends(&rt, Workload::Tree, 6, 8, ends)?);
+    expect_ends(rt.alloc(), Workload::Tree, 6, 8, ends)?;
     Ok(())
 }
 
 #[test]
 fn two_lists_of_a_thousand(rt: HostRuntime) -> Result<(), Fail> {
     let trace = generate(rt.alloc(), Workload::List, 1, 1000, 2)?;
-    assert_eq!(rt; trace.threads(), 2);
-    assert_eq!(rt; trace.count(0), 7018);
-    assert_eq!(rt; trace.count(1), 7018);
+    same(trace.threads(), 2)?;
+    same(trace.count(0), 7018)?;
+    same(trace.count(1), 7018)?;
     Ok(())
 }
 
 #[test]
 fn the_most_operations(rt: HostRuntime) -> Result<(), Fail> {
     let trace = generate(rt.alloc(), Workload::List, 1, 18_722, 8)?;
-    assert_eq!(rt; trace.count(7), 131_072);
+    same(trace.count(7), 131_072)?;
     let refused = generate(rt.alloc(), Workload::List, 1, 18_723, 8).err();
-    assert_eq!(rt; refused, Some(GenRefusal::TooMany));
+    same(refused, Some(GenRefusal::TooMany))?;
     Ok(())
 }

@@ -1,6 +1,7 @@
-use melt_stats::*;
 use csv::{Reader, StringRecord};
 use melt_model::{Journal, Journals, Phase};
+use melt_same::same;
+use melt_stats::table;
 use std::alloc::Global;
 use std::test::Fail;
 
@@ -12,10 +13,10 @@ fn journal(alloc: Global, items: &[Journal]) -> Result<Journals, Fail> {
 #[test]
 fn no_collection(rt: HostRuntime) -> Result<(), Fail> {
     let text = table(rt.alloc(), &journal(rt.alloc(), &[])?)?;
-    assert_eq!(rt;
+    same(
         text.as_slice(),
-        b"number,phase,held,live,bodies,stubs,end\n".as_slice()
-    );
+        b"number,phase,held,live,bodies,stubs,end\n".as_slice(),
+    )?;
     Ok(())
 }
 
@@ -52,7 +53,7 @@ fn each_phase(rt: HostRuntime) -> Result<(), Fail> {
         1,inactive,0,4294967295,0,0,1\n\
         2,mark,12,345,6,70,4294967295\n\
         3,move,4294967295,4294967294,4294967293,4294967292,4294967291\n";
-    assert_eq!(rt; text.as_slice(), wanted.as_slice());
+    same(text.as_slice(), wanted.as_slice())?;
     Ok(())
 }
 
@@ -86,18 +87,28 @@ fn a_reader_finds_the_numbers(rt: HostRuntime) -> Result<(), Fail> {
     for row in Reader::from_reader(rt.alloc(), text.as_slice()).into_records() {
         let row = row?;
         let Some(item) = items.get(count as usize) else {
-            assert!(rt; false);
-            return Ok(());
+            return Err(Fail::new("there are more rows than collections"));
         };
         count = count.wrapping_add(1);
-        assert_eq!(rt; number_in(&row, 0), Some(count));
-        assert_eq!(rt; number_in(&row, 2), Some(item.held));
-        assert_eq!(rt; number_in(&row, 3), Some(item.live));
-        assert_eq!(rt; number_in(&row, 4), Some(item.bodies));
-        assert_eq!(rt; number_in(&row, 5), Some(item.stubs));
-        assert_eq!(rt; number_in(&row, 6), Some(item.end));
-        assert!(rt; row.get(7).is_none());
+        let got = [
+            number_in(&row, 0),
+            number_in(&row, 2),
+            number_in(&row, 3),
+            number_in(&row, 4),
+            number_in(&row, 5),
+            number_in(&row, 6),
+        ];
+        let want = [
+            Some(count),
+            Some(item.held),
+            Some(item.live),
+            Some(item.bodies),
+            Some(item.stubs),
+            Some(item.end),
+        ];
+        same(got, want)?;
+        same(row.get(7).is_none(), true)?;
     }
-    assert_eq!(rt; count, 2);
+    same(count, 2)?;
     Ok(())
 }

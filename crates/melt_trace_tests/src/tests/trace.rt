@@ -1,7 +1,8 @@
 mod parser;
 
-use melt_trace::*;
 use melt_model::Op;
+use melt_same::same;
+use melt_trace::{Reason, TraceError, parse, print};
 use std::test::Fail;
 
 #[test]
@@ -10,19 +11,19 @@ fn each_operation(rt: HostRuntime) -> Result<(), Fail> {
         rt.alloc(),
         b"melt 1\nthreads 1\nglobals 3\nthread 0\nnew 15 62 0\nload 1 2 63\nstore 3 10 4\ngload 5 2\ngstore 0 6\nsame 7 8\ndone\n",
     )?;
-    assert_eq!(rt; trace.threads(), 1);
-    assert_eq!(rt; trace.count(0), 6);
+    same(trace.threads(), 1)?;
+    same(trace.count(0), 6)?;
     let mut cursor = trace.cursor(0);
     let (dst, refs, nums) = (15, 62, 0);
-    assert_eq!(rt; cursor.next(), Some(Op::New { dst, refs, nums }));
+    same(cursor.next(), Some(Op::New { dst, refs, nums }))?;
     let (dst, src, i) = (1, 2, 63);
-    assert_eq!(rt; cursor.next(), Some(Op::Load { dst, src, i }));
+    same(cursor.next(), Some(Op::Load { dst, src, i }))?;
     let (obj, i, src) = (3, 10, 4);
-    assert_eq!(rt; cursor.next(), Some(Op::Store { obj, i, src }));
-    assert_eq!(rt; cursor.next(), Some(Op::GLoad { dst: 5, g: 2 }));
-    assert_eq!(rt; cursor.next(), Some(Op::GStore { g: 0, src: 6 }));
-    assert_eq!(rt; cursor.next(), Some(Op::Same { a: 7, b: 8 }));
-    assert_eq!(rt; cursor.next(), None);
+    same(cursor.next(), Some(Op::Store { obj, i, src }))?;
+    same(cursor.next(), Some(Op::GLoad { dst: 5, g: 2 }))?;
+    same(cursor.next(), Some(Op::GStore { g: 0, src: 6 }))?;
+    same(cursor.next(), Some(Op::Same { a: 7, b: 8 }))?;
+    same(cursor.next(), None)?;
     Ok(())
 }
 
@@ -31,7 +32,7 @@ fn spaces_are_not_printed(rt: HostRuntime) -> Result<(), Fail> {
     let text = b"# spaces\nmelt 1\nthreads 1\nglobals  0\nthread 0\n  drop   0\ndone".as_slice();
     let trace = parse(rt.alloc(), text)?;
     let wanted = b"melt 1\nthreads 1\nglobals 0\nthread 0\ndrop 0\ndone\n".as_slice();
-    assert_eq!(rt; print(rt.alloc(), &trace)?.as_slice(), wanted);
+    same(print(rt.alloc(), &trace)?.as_slice(), wanted)?;
     Ok(())
 }
 
@@ -41,16 +42,16 @@ fn nested_blocks(rt: HostRuntime) -> Result<(), Fail> {
         rt.alloc(),
         b"melt 1\nthreads 1\nglobals 0\nthread 0\nrepeat 2\nrepeat 2\nnew 0 0 0\nend\ndrop 0\nend\ndone\n",
     )?;
-    assert_eq!(rt; trace.threads(), 1);
-    assert_eq!(rt; trace.count(0), 6);
+    same(trace.threads(), 1)?;
+    same(trace.count(0), 6)?;
     let mut cursor = trace.cursor(0);
     let (dst, refs, nums) = (0, 0, 0);
     let new = Op::New { dst, refs, nums };
     let drop = Op::Drop { r: 0 };
     for op in [new, new, drop, new, new, drop] {
-        assert_eq!(rt; cursor.next(), Some(op));
+        same(cursor.next(), Some(op))?;
     }
-    assert_eq!(rt; cursor.next(), None);
+    same(cursor.next(), None)?;
     Ok(())
 }
 
@@ -59,11 +60,11 @@ fn printed_text(rt: HostRuntime) -> Result<(), Fail> {
     let wanted =
         b"melt 1\nthreads 2\nglobals 64\norder 1 9\nthread 0\nrepeat 3\nput 1 63 7\nend\ndone\nthread 1\ncollect\ndone\n".as_slice();
     let trace = parse(rt.alloc(), wanted)?;
-    assert_eq!(rt; trace.threads(), 2);
-    assert_eq!(rt; trace.orders(), 1);
-    assert_eq!(rt; trace.order(0), (1, 9));
+    same(trace.threads(), 2)?;
+    same(trace.orders(), 1)?;
+    same(trace.order(0), (1, 9))?;
     let text = print(rt.alloc(), &trace)?;
-    assert_eq!(rt; text.as_slice(), wanted);
+    same(text.as_slice(), wanted)?;
     Ok(())
 }
 
@@ -90,13 +91,13 @@ fn the_sentence_of_each_reason(rt: HostRuntime) -> Result<(), Fail> {
         (14, Reason::EndsEarly, "the trace ends before the done"),
     ];
     for (number, reason, begin) in sentences {
-        assert_eq!(rt; reason.number(), number);
-        assert_eq!(rt; Reason::of_number(number), Some(reason));
+        same((reason, reason.number()), (reason, number))?;
+        same(Reason::of_number(number), Some(reason))?;
         let text = format!(in rt.alloc(); "{reason}")?;
-        assert!(rt; text.starts_with(begin));
+        same((reason, text.starts_with(begin)), (reason, true))?;
     }
-    assert_eq!(rt; Reason::of_number(0), None);
-    assert_eq!(rt; Reason::of_number(15), None);
+    same(Reason::of_number(0), None)?;
+    same(Reason::of_number(15), None)?;
     Ok(())
 }
 
@@ -105,12 +106,12 @@ fn the_text_of_a_refusal(rt: HostRuntime) -> Result<(), Fail> {
     let told = TraceError { line: 5, reason: 9 };
     let text = format!(in rt.alloc(); "{told}")?;
     let wanted = "line 5, reason 9: a register is named above 15: name one from 0 to 15";
-    assert_eq!(rt; text.as_str(), wanted);
+    same(text.as_str(), wanted)?;
     let unknown = TraceError {
         line: 5,
         reason: 15,
     };
     let text = format!(in rt.alloc(); "{unknown}")?;
-    assert_eq!(rt; text.as_str(), "line 5, reason 15");
+    same(text.as_str(), "line 5, reason 15")?;
     Ok(())
 }

@@ -1,0 +1,41 @@
+-- Where no thread has a call in flight.
+use Rattle.std.proofs.Common.{◌≡◌, ℕ, zero, suc, ◌≤◌, length, sym, subst, arith}
+use Rattle.std.proofs.lemmas.List.{get_or_past}
+use Rattle.std.specs.Prelude.{false, None}
+use Rattle.melt_model.specs.declared.operations.Op.{Op}
+use Rattle.melt_scion.specs.Heaps.{OnDisk}
+use Rattle.melt_core.specs.declared.answer.StepResult.{StepResult}
+use Rattle.melt_core.specs.Advances.{KeepsOthers, MovesBy, MovesOn}
+use Rattle.melt_core.specs.Epochs.{HasDropped}
+use Rattle.melt_core.specs.Views.{IsQuiet, Standing, View, call_of}
+use Rattle.melt_core_tests.proofs.Onward.{KeepsOthers_both}
+
+-- neither of two threads has one
+pub quiet_two : (v : View) → length v.calls ≤ 2 → call_of v 0 ≡ None → call_of v 1 ≡ None → IsQuiet v
+quiet_two v two first second zero = first
+quiet_two v two first second (suc zero) = second
+quiet_two v two first second (suc (suc t)) = get_or_past v.calls (suc (suc t)) None (omega (arith, two))
+
+-- a thread that lets its registers hold nothing begins none
+pub quiet_dropped : (v w : View) (t : ℕ) → IsQuiet v → HasDropped v w t → IsQuiet w
+quiet_dropped v w t quiet dropped k = subst (λ (x : View). call_of x k ≡ None) (sym dropped.only) (quiet k)
+
+-- The words stand behind events of one call, and all else that a call of another thread needs is as before.
+pub record Moved (disk : OnDisk) (v w : View) (t : ℕ) : Type 0 where
+  pub stands : Standing false disk w
+  pub others : KeepsOthers v w t
+
+moved_by : (more : ℕ) (disk : OnDisk) (v w : View) (t : ℕ) (o : Op) (result : StepResult) → Standing false disk v
+    → MovesBy more v w t o result → Moved disk v w t
+moved_by zero disk v w t o result stands moves =
+    let event = moves.over disk stands in
+    record { stands = event.keeps false (λ told. tt) stands; others = event.others }
+moved_by (suc more) disk v w t o result stands moves =
+    let event = moves.1.over disk stands in
+    let after : Moved disk moves.0 w t =
+    moved_by more disk moves.0 w t o result (event.keeps false (λ told. tt) stands) moves.2 in
+    record { stands = after.stands; others = KeepsOthers_both v moves.0 w t event.others after.others }
+
+pub moved : (disk : OnDisk) (v w : View) (t : ℕ) (o : Op) (result : StepResult) → Standing false disk v
+    → MovesOn v w t o result → Moved disk v w t
+moved disk v w t o result stands moves = moved_by moves.more disk v w t o result stands moves.moves
