@@ -1,6 +1,7 @@
+use super::first_order;
 use melt_model::Op;
 use melt_same::same;
-use melt_trace::{ParseRefusal, Trace, TraceError, parse, print};
+use melt_trace::{ParseRefusal, TraceError, parse, print};
 use std::alloc::Global;
 use std::test::Fail;
 
@@ -12,20 +13,12 @@ fn refusal(alloc: Global, text: &[u8]) -> Option<(u32, u32)> {
     }
 }
 
-/// The turn that is ordered first, if one is.
-fn first_order(trace: &Trace) -> Option<(u32, u32)> {
-    if trace.orders() > 0 {
-        Some(trace.order(0))
-    } else {
-        None
-    }
-}
-
 #[test]
 fn what_a_trace_says(rt: HostRuntime) -> Result<(), Fail> {
     let trace = parse(
         rt.alloc(),
-        b"# a trace\nmelt  1\n\n threads 2\nglobals 3\norder 1 7\nthread 0\nnew 15 62 0\nrepeat 3\nput 1 2 18446744073709551615\nend\ndone\nthread 1\ncollect\ndone",
+        b"# a trace\nmelt  1\n\n threads 2\nglobals 3\norder 1 7\nthread 0\nnew 15 62 0\nrepeat 3\n\
+            put 1 2 18446744073709551615\nend\ndone\nthread 1\ncollect\ndone",
     )?;
     same(trace.threads(), 2)?;
     same(trace.globals(), 3)?;
@@ -43,8 +36,8 @@ fn what_a_trace_says(rt: HostRuntime) -> Result<(), Fail> {
     let mut second = trace.cursor(1);
     same(second.next(), Some(Op::Collect))?;
     same(second.next(), None)?;
-    let wanted =
-        b"melt 1\nthreads 2\nglobals 3\norder 1 7\nthread 0\nnew 15 62 0\nrepeat 3\nput 1 2 18446744073709551615\nend\ndone\nthread 1\ncollect\ndone\n";
+    let wanted = b"melt 1\nthreads 2\nglobals 3\norder 1 7\nthread 0\nnew 15 62 0\nrepeat 3\n\
+        put 1 2 18446744073709551615\nend\ndone\nthread 1\ncollect\ndone\n";
     same(print(rt.alloc(), &trace)?.as_slice(), wanted.as_slice())?;
     Ok(())
 }
