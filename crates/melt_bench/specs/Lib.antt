@@ -1,0 +1,3 @@
+-- What the words of the program stand for.
+pub mod Asked
+pub mod Words

@@ -1,5 +1,0 @@
-use Rattle.melt_epoch.specs.Tests.{MayCall}
-use Rattle.melt_epoch_bench.proofs.lists.make_list.Given as goal
-
-abbrev pub invariant-loop-behind : goal.invariant-loop-behind
-invariant-loop-behind g l = MayCall (g.R.RecordReader.image) l.epoch.words l.m

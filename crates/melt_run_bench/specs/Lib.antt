@@ -1,2 +1,0 @@
--- What the words of the program stand for.
-pub mod Asked
