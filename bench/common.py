@@ -1,5 +1,5 @@
-"""What bench/run, bench/collect, bench/gen, bench/flags, bench/start, bench/leak, bench/reload, bench/move, bench/epoch
-and bench/threads share: the program, the plain ones, the largest traces, and how a process is measured."""
+"""What bench/run, bench/collect, bench/disk, bench/gen, bench/flags, bench/start, bench/leak, bench/reload, bench/move,
+bench/epoch and bench/threads share: the programs, the plain ones, the largest traces, and how a process is measured."""
 import bisect
 import os
 import pathlib
@@ -14,6 +14,7 @@ from typing import NamedTuple
 
 HERE = pathlib.Path(__file__).resolve().parent
 PROGRAM = HERE.parent / "crates/melt_top/out/melt_top"
+BENCH = HERE.parent / "crates/melt_bench/out/melt_bench"
 KINDS = ["list", "queue", "table", "tree"]
 SIZES = range(1, 100001)  # objects of each thread
 MEASURE = "/usr/bin/time"
@@ -35,6 +36,14 @@ def built(program):
     if not os.access(path, os.X_OK):
         fail(f"{program} is not there: run ./melt once, which builds it")
     return path
+
+
+def command(program, name):
+    """The first words of this command of the crate `melt_bench`, where its program is there."""
+    path = os.path.realpath(program)
+    if not os.access(path, os.X_OK):
+        fail(f"{program} is not there: `rt run -- disk 16` in crates/melt_bench builds it")
+    return [path, name]
 
 
 def compiled_file(path, folder):

@@ -72,9 +72,10 @@ pub fn checksum<D: StaleDisk>(alloc: Global, disk: &mut D, count: u32) -> Result
     Ok(sum)
 }
 
+/// What the word behind `disk` asks for.
 pub fn bench(rt: HostRuntime, words: &[String]) -> Result<()> {
     let [count] = words else {
-        bail!("the word behind `disk` is how many records");
+        bail!("`disk` takes one word: how many records");
     };
     let mut disk = FileDisk::new(rt.alloc(), rt)?;
     let sum = checksum(rt.alloc(), &mut disk, number(count)?)?;

@@ -90,15 +90,14 @@ fn tell_walks<X: Threads + Wait + Sync + Clock + Print>(
     Ok(())
 }
 
+/// What the words behind `epoch` ask for.
 pub fn bench<X: Threads + Wait + Sync + Clock + Print>(
     rt: &X,
     files: HostRuntime,
     words: &[String],
 ) -> Result<()> {
     let [what, size, count, threads] = words else {
-        bail!(
-            "the words behind `epoch` are what to do, how many words, how often, how many threads"
-        );
+        bail!("`epoch` takes what to do, how many words, how often, and how many threads");
     };
     let (size, count, threads) = (number(size)?, number(count)?, number(threads)?);
     ensure!(size < MANY, "a heap has fewer words");
