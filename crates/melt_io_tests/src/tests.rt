@@ -1,4 +1,9 @@
-use melt_io::*;
+use melt_io::{
+    Failed, FileDisk, Gate, LendRefusal, MemDisk, MemFile, MemSink, MemSource, OpenGate,
+    ReadRefusal, RecordReader, StaleDisk, StdSink, StdSource, SteadyDisk, SteadySink, SteadySource,
+    read_all, write_all,
+};
+use melt_same::same;
 use std::alloc::Global;
 use std::fs;
 use std::test::Fail;
@@ -13,26 +18,26 @@ fn source(alloc: Global, text: &[u8], fail: &[u64]) -> Result<MemSource, Fail> {
 fn reads_all_up_to_the_limit(rt: HostRuntime) -> Result<(), Fail> {
     let mut enough = source(rt.alloc(), b"12 34", &[])?;
     let bytes = read_all(rt.alloc(), &mut enough, 5)?;
-    assert_eq!(rt; bytes.as_slice(), b"12 34".as_slice());
-    assert_eq!(rt; enough.calls, 2);
+    same(bytes.as_slice(), b"12 34".as_slice())?;
+    same(enough.calls, 2)?;
 
     let mut long = source(rt.alloc(), b"12 34", &[])?;
-    assert_eq!(rt;
+    same(
         read_all(rt.alloc(), &mut long, 3).err(),
-        Some(ReadRefusal::TooLong)
-    );
-    assert_eq!(rt; long.pos, 4);
+        Some(ReadRefusal::TooLong),
+    )?;
+    same(long.pos, 4)?;
     Ok(())
 }
 
 #[test]
 fn a_read_that_fails_behind_all_the_bytes_is_a_fault(rt: HostRuntime) -> Result<(), Fail> {
     let mut cut = source(rt.alloc(), b"12 34", &[2])?;
-    assert_eq!(rt;
+    same(
         read_all(rt.alloc(), &mut cut, usize::MAX).err(),
-        Some(ReadRefusal::Fault)
-    );
-    assert_eq!(rt; (cut.pos, cut.faults.count()), (5, 1));
+        Some(ReadRefusal::Fault),
+    )?;
+    same((cut.pos, cut.faults.count()), (5, 1))?;
     Ok(())
 }
 
@@ -40,11 +45,11 @@ fn a_read_that_fails_behind_all_the_bytes_is_a_fault(rt: HostRuntime) -> Result<
 fn writes_all_or_fails(rt: HostRuntime) -> Result<(), Fail> {
     let mut sink = MemSink::new(rt.alloc());
     sink.fail.push(2)?;
-    assert_eq!(rt; write_all(&mut sink, b""), Ok(()));
-    assert_eq!(rt; write_all(&mut sink, b"ok"), Ok(()));
-    assert_eq!(rt; write_all(&mut sink, b"lost"), Err(Failed));
-    assert_eq!(rt; sink.bytes.as_slice(), b"ok".as_slice());
-    assert_eq!(rt; (sink.calls, sink.faults.count()), (2, 1));
+    same(write_all(&mut sink, b""), Ok(()))?;
+    same(write_all(&mut sink, b"ok"), Ok(()))?;
+    same(write_all(&mut sink, b"lost"), Err(Failed))?;
+    same(sink.bytes.as_slice(), b"ok".as_slice())?;
+    same((sink.calls, sink.faults.count()), (2, 1))?;
     Ok(())
 }
 
@@ -54,7 +59,7 @@ fn the_steady_forms_keep_bytes(rt: HostRuntime) -> Result<(), Fail> {
     let bytes = read_all(rt.alloc(), &mut steady, 3)?;
     let mut sink = SteadySink::new(rt.alloc());
     write_all(&mut sink, &bytes)?;
-    assert_eq!(rt; sink.bytes.as_slice(), b"abc".as_slice());
+    same(sink.bytes.as_slice(), b"abc".as_slice())?;
     Ok(())
 }
 
@@ -64,15 +69,15 @@ fn a_reader_keeps_the_words_of_its_lending(rt: HostRuntime) -> Result<(), Fail> 
     disk.write_at(2, &[7, 8])?;
     let mut reader = disk.lend(rt.alloc()).ok().ok_or("no reader")?;
     disk.write_at(0, &[1, 2, 3])?;
-    assert_eq!(rt; disk.image.as_slice(), [1, 2, 3, 8].as_slice());
+    same(disk.image.as_slice(), [1, 2, 3, 8].as_slice())?;
 
     let mut words = [9; 4];
     reader.read_at(1, &mut words)?;
-    assert_eq!(rt; words, [0, 7, 8, 0]);
-    assert_eq!(rt; reader.reads, 1);
+    same(words, [0, 7, 8, 0])?;
+    same(reader.reads, 1)?;
     disk.give_back(reader);
-    assert_eq!(rt; (disk.writes, disk.lends), (2, 1));
-    assert_eq!(rt; (disk.faults.count(), disk.read_faults), (0, 0));
+    same((disk.writes, disk.lends), (2, 1))?;
+    same((disk.faults.count(), disk.read_faults), (0, 0))?;
     Ok(())
 }
 
@@ -82,27 +87,29 @@ fn the_adapters_pass_bytes_on(rt: HostRuntime) -> Result<(), Fail> {
     let bytes = read_all(rt.alloc(), &mut from, 8)?;
     let mut to = StdSink::new(Vec::new(rt.alloc()));
     write_all(&mut to, &bytes)?;
-    assert_eq!(rt; bytes.as_slice(), b"in".as_slice());
-    assert_eq!(rt; (from.faults.count(), to.faults.count()), (0, 0));
+    same(bytes.as_slice(), b"in".as_slice())?;
+    same((from.faults.count(), to.faults.count()), (0, 0))?;
     OpenGate.before(0, 1);
     Ok(())
 }
 
 #[test]
-fn standard_streams_fit_the_adapters(rt: HostRuntime) {
+fn standard_streams_fit_the_adapters(rt: HostRuntime) -> Result<(), Fail> {
     let mut out = StdSink::new(rt.stdout());
-    assert_eq!(rt; write_all(&mut out, b""), Ok(()));
+    same(write_all(&mut out, b""), Ok(()))?;
     let input = StdSource::new(rt.stdin());
-    assert_eq!(rt; input.faults.count(), 0);
+    same(input.faults.count(), 0)?;
+    Ok(())
 }
 
 #[test]
-fn a_writer_that_takes_nothing_is_a_fault(rt: HostRuntime) {
+fn a_writer_that_takes_nothing_is_a_fault() -> Result<(), Fail> {
     let mut room = [0; 2];
     let mut full = StdSink::new(room.as_mut_slice());
-    assert_eq!(rt; write_all(&mut full, b"ab"), Ok(()));
-    assert_eq!(rt; write_all(&mut full, b"c"), Err(Failed));
-    assert_eq!(rt; full.faults.count(), 1);
+    same(write_all(&mut full, b"ab"), Ok(()))?;
+    same(write_all(&mut full, b"c"), Err(Failed))?;
+    same(full.faults.count(), 1)?;
+    Ok(())
 }
 
 #[test]
@@ -110,7 +117,7 @@ fn the_file_has_the_lowest_byte_of_each_word_first(rt: HostRuntime) -> Result<()
     let mut disk = FileDisk::new(rt.alloc(), rt)?;
     disk.write_at(1, &[4295032833, 0, 7])?;
     let bytes = fs::read(&rt, "melt.stale")?;
-    assert_eq!(rt; bytes.len(), 32);
+    same(bytes.len(), 32)?;
     for (word, want) in [
         [0, 0, 0, 0, 0, 0, 0, 0],
         [1, 0, 1, 0, 1, 0, 0, 0],
@@ -120,25 +127,22 @@ fn the_file_has_the_lowest_byte_of_each_word_first(rt: HostRuntime) -> Result<()
     .iter()
     .enumerate()
     {
-        assert_eq!(rt;
-            &bytes[8 * word..8 * word + 8],
-            want.as_slice(),
-            "at {word}"
-        );
+        let found = &bytes[8 * word..8 * word + 8];
+        same((word, found), (word, want.as_slice()))?;
     }
 
     let mut reader = disk.lend(rt.alloc()).ok().ok_or("no reader")?;
     let mut words = [9; 5];
     reader.read_at(1, &mut words)?;
-    assert_eq!(rt; words, [4295032833, 0, 7, 0, 0]);
+    same(words, [4295032833, 0, 7, 0, 0])?;
     disk.give_back(reader);
-    assert_eq!(rt;
+    same(
         (disk.lends, disk.faults.count(), disk.read_faults),
-        (1, 0, 0)
-    );
+        (1, 0, 0),
+    )?;
     fs::remove_file(&rt, "melt.stale")?;
-    assert_eq!(rt; disk.lend(rt.alloc()).err(), Some(LendRefusal::Failed));
-    assert_eq!(rt; (disk.faults.count(), disk.file.faults.count()), (1, 1));
+    same(disk.lend(rt.alloc()).err(), Some(LendRefusal::Failed))?;
+    same((disk.faults.count(), disk.file.faults.count()), (1, 1))?;
     Ok(())
 }
 
@@ -157,47 +161,47 @@ fn disk_in_memory(
 #[test]
 fn a_record_goes_to_its_place_byte_for_byte(rt: HostRuntime) -> Result<(), Fail> {
     let mut disk = disk_in_memory(rt.alloc(), &[], &[])?;
-    assert_eq!(rt; disk.file.calls, 0);
+    same(disk.file.calls, 0)?;
     disk.write_at(2, &[258, 3])?;
-    assert_eq!(rt; disk.file.calls, 2);
+    same(disk.file.calls, 2)?;
     disk.write_at(1, &[72623859790382856])?;
-    assert_eq!(rt; disk.file.calls, 3);
+    same(disk.file.calls, 3)?;
     let bytes = disk.file.bytes.as_ref().ok_or("no file")?;
-    assert_eq!(rt;
+    same(
         bytes.as_slice(),
         [
             0, 0, 0, 0, 0, 0, 0, 0, 8, 7, 6, 5, 4, 3, 2, 1, 2, 1, 0, 0, 0, 0, 0, 0, 3, 0, 0, 0, 0,
             0, 0, 0,
         ]
-        .as_slice()
-    );
+        .as_slice(),
+    )?;
     Ok(())
 }
 
 #[test]
 fn a_call_of_the_file_that_fails_is_a_fault(rt: HostRuntime) -> Result<(), Fail> {
     let mut disk = disk_in_memory(rt.alloc(), &[1, 4, 6], &[2])?;
-    assert_eq!(rt; disk.write_at(1, &[5]), Err(Failed));
-    assert_eq!(rt; disk.file.bytes.is_none(), true);
+    same(disk.write_at(1, &[5]), Err(Failed))?;
+    same(disk.file.bytes.is_none(), true)?;
     disk.write_at(1, &[5])?;
-    assert_eq!(rt; disk.write_at(0, &[6]), Err(Failed));
+    same(disk.write_at(0, &[6]), Err(Failed))?;
     let mut reader = disk.lend(rt.alloc()).ok().ok_or("no reader")?;
-    assert_eq!(rt; disk.lend(rt.alloc()).err(), Some(LendRefusal::Failed));
-    assert_eq!(rt;
+    same(disk.lend(rt.alloc()).err(), Some(LendRefusal::Failed))?;
+    same(
         (
             disk.faults.count(),
             disk.file.faults.count(),
-            disk.file.calls
+            disk.file.calls,
         ),
-        (3, 3, 6)
-    );
+        (3, 3, 6),
+    )?;
 
     let mut words = [9; 2];
     reader.read_at(0, &mut words)?;
-    assert_eq!(rt; words, [0, 5]);
-    assert_eq!(rt; reader.read_at(0, &mut words), Err(Failed));
+    same(words, [0, 5])?;
+    same(reader.read_at(0, &mut words), Err(Failed))?;
     disk.give_back(reader);
-    assert_eq!(rt; (disk.writes, disk.lends, disk.read_faults), (3, 2, 1));
+    same((disk.writes, disk.lends, disk.read_faults), (3, 2, 1))?;
     Ok(())
 }
 
@@ -209,9 +213,9 @@ fn a_short_read_is_continued_and_zeros_are_past_the_end(rt: HostRuntime) -> Resu
     let mut reader = disk.lend(rt.alloc()).ok().ok_or("no reader")?;
     let mut words = [9; 4];
     reader.read_at(1, &mut words)?;
-    assert_eq!(rt; words, [1, 2, 0, 0]);
+    same(words, [1, 2, 0, 0])?;
     let calls = reader.file.as_ref().map(|file| file.calls);
-    assert_eq!(rt; (reader.reads, calls), (1, Some(4)));
+    same((reader.reads, calls), (1, Some(4)))?;
     Ok(())
 }
 
@@ -223,13 +227,13 @@ fn long_runs_go_by_4096_words(rt: HostRuntime) -> Result<(), Fail> {
     }
     let mut disk = disk_in_memory(rt.alloc(), &[], &[])?;
     disk.write_at(3, &words)?;
-    assert_eq!(rt; disk.file.calls, 3);
+    same(disk.file.calls, 3)?;
     let mut reader = disk.lend(rt.alloc()).ok().ok_or("no reader")?;
     let mut read = vec![in rt.alloc(); 9; 4097]?;
     reader.read_at(3, &mut read)?;
-    assert_eq!(rt; read.as_slice(), words.as_slice());
+    same(read.as_slice(), words.as_slice())?;
     let calls = reader.file.as_ref().map(|file| file.calls);
-    assert_eq!(rt; calls, Some(2));
+    same(calls, Some(2))?;
     Ok(())
 }
 
@@ -239,17 +243,17 @@ fn a_reader_lent_before_the_first_write_fails_each_read(rt: HostRuntime) -> Resu
     let mut reader = disk.lend(rt.alloc()).ok().ok_or("no reader")?;
     disk.write_at(7, &[5])?;
     let mut words = [9; 2];
-    assert_eq!(rt; reader.read_at(7, &mut words), Err(Failed));
-    assert_eq!(rt; reader.read_at(0, &mut words), Err(Failed));
-    assert_eq!(rt; (reader.reads, reader.faults.count()), (2, 2));
+    same(reader.read_at(7, &mut words), Err(Failed))?;
+    same(reader.read_at(0, &mut words), Err(Failed))?;
+    same((reader.reads, reader.faults.count()), (2, 2))?;
     disk.give_back(reader);
-    assert_eq!(rt; (disk.faults.count(), disk.read_faults), (0, 2));
+    same((disk.faults.count(), disk.read_faults), (0, 2))?;
 
     let mut real = FileDisk::new(rt.alloc(), rt)?;
     let mut unread = real.lend(rt.alloc()).ok().ok_or("no reader")?;
-    assert_eq!(rt; unread.read_at(7, &mut words), Err(Failed));
+    same(unread.read_at(7, &mut words), Err(Failed))?;
     real.give_back(unread);
-    assert_eq!(rt; (real.faults.count(), real.read_faults), (0, 1));
+    same((real.faults.count(), real.read_faults), (0, 1))?;
     Ok(())
 }
 
@@ -260,25 +264,25 @@ fn a_call_whose_number_is_listed_fails(rt: HostRuntime) -> Result<(), Fail> {
     disk.fail_lends.push(1)?;
     disk.fail_reads.push((2, 1))?;
     disk.write_at(1, &[5, 6])?;
-    assert_eq!(rt; disk.write_at(0, &[1]), Err(Failed));
-    assert_eq!(rt; disk.image.as_slice(), [0, 5, 6].as_slice());
+    same(disk.write_at(0, &[1]), Err(Failed))?;
+    same(disk.image.as_slice(), [0, 5, 6].as_slice())?;
 
-    assert_eq!(rt; disk.lend(rt.alloc()).err(), Some(LendRefusal::Failed));
+    same(disk.lend(rt.alloc()).err(), Some(LendRefusal::Failed))?;
     let mut reader = disk.lend(rt.alloc()).ok().ok_or("no reader")?;
     let mut words = [9; 3];
-    assert_eq!(rt; reader.read_at(0, &mut words), Err(Failed));
+    same(reader.read_at(0, &mut words), Err(Failed))?;
     reader.read_at(1, &mut words)?;
-    assert_eq!(rt; words, [5, 6, 0]);
+    same(words, [5, 6, 0])?;
     disk.give_back(reader);
-    assert_eq!(rt;
+    same(
         (
             disk.writes,
             disk.lends,
             disk.faults.count(),
-            disk.read_faults
+            disk.read_faults,
         ),
-        (2, 2, 2, 1)
-    );
+        (2, 2, 2, 1),
+    )?;
     Ok(())
 }
 
@@ -291,7 +295,7 @@ fn only_the_reader_of_its_lend_tells_a_lie(rt: HostRuntime) -> Result<(), Fail> 
     for want in [[5, 70, 7], [5, 6, 7]] {
         let mut reader = disk.lend(rt.alloc()).ok().ok_or("no reader")?;
         reader.read_at(1, &mut words)?;
-        assert_eq!(rt; words, want);
+        same(words, want)?;
         disk.give_back(reader);
     }
     Ok(())
