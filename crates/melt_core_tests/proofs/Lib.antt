@@ -1,2 +1,2 @@
-mod Free
+mod Moving
 mod Onward

@@ -5,7 +5,7 @@ use Rattle.melt_core.specs.Views.{IsQuiet, Standing, view}
 use Rattle.melt_core_tests.proofs.tests.expect.Given as goal
 
 abbrev pub invariant-loop-at : goal.invariant-loop-at
-invariant-loop-at g l =
+invariant-loop-at l =
     Standing false no_homes_on (view l.core) ×
     IsQuiet (view l.core) ×
     (length (view l.core).globals ≡ length (view l.initial.core).globals) ×

@@ -23,22 +23,22 @@ may_go_on u v t entries o on is within two empty room few =
     }
 
 pub advance-second-requires : goal.advance-second-requires
-advance-second-requires g c =
+advance-second-requires c =
     let u = view c.in_ok-core.core in
     let made = c.in_ok-core.ensures in
-    may_go_on u (view c.advance-first.new.core) 1 (2 * c.loop-events.events-counter + 1) c.new-op.result
+    may_go_on u (view c.advance-first.new.core) 1 (2 * c.loop-events.events + 1) c.new-op.result
     (onward_event c.advance-first.ensures c.loop-events.invariant)
     c.new-op.ensures (omega arith) made.threads made.history made.room (omega (arith, c.loop-events-test.true))
 
 pub loop-events-preserved : goal.loop-events-preserved
-loop-events-preserved g c =
+loop-events-preserved c =
     let u = view c.in_ok-core.core in
-    let n = 2 * c.loop-events.events-counter in
+    let n = 2 * c.loop-events.events in
     let o = c.new-op.result in
     let first : Onward no_homes_on u (view c.advance-first.new.core) o (n + 1) =
     onward_event c.advance-first.ensures c.loop-events.invariant in
     let both : Onward no_homes_on u (view c.advance-second.new.core) o (n + 1 + 1) =
     onward_event c.advance-second.ensures first in
     subst (Onward no_homes_on u (view c.advance-second.new.core) o) (let e : n + 1 + 1 ≡ 2 *
-    (c.loop-events.events-counter + 1) =
+    (c.loop-events.events + 1) =
     omega arith in e) both

@@ -1,24 +1,12 @@
--- Where no thread has a call in flight.
-use Rattle.std.proofs.Common.{◌≡◌, ℕ, zero, suc, ◌≤◌, length, sym, subst, arith}
-use Rattle.std.proofs.lemmas.List.{get_or_past}
-use Rattle.std.specs.Prelude.{false, None}
+-- What events of one call leave, where they are made one right behind the other.
+use Rattle.std.proofs.Common.{ℕ, zero, suc}
+use Rattle.std.specs.Prelude.{false}
 use Rattle.melt_model.specs.declared.operations.Op.{Op}
 use Rattle.melt_scion.specs.Heaps.{OnDisk}
 use Rattle.melt_core.specs.declared.answer.StepResult.{StepResult}
 use Rattle.melt_core.specs.Advances.{KeepsOthers, MovesBy, MovesOn}
-use Rattle.melt_core.specs.Epochs.{HasDropped}
-use Rattle.melt_core.specs.Views.{IsQuiet, Standing, View, call_of}
+use Rattle.melt_core.specs.Views.{Standing, View}
 use Rattle.melt_core_tests.proofs.Onward.{KeepsOthers_both}
-
--- neither of two threads has one
-pub quiet_two : (v : View) → length v.calls ≤ 2 → call_of v 0 ≡ None → call_of v 1 ≡ None → IsQuiet v
-quiet_two v two first second zero = first
-quiet_two v two first second (suc zero) = second
-quiet_two v two first second (suc (suc t)) = get_or_past v.calls (suc (suc t)) None (omega (arith, two))
-
--- a thread that lets its registers hold nothing begins none
-pub quiet_dropped : (v w : View) (t : ℕ) → IsQuiet v → HasDropped v w t → IsQuiet w
-quiet_dropped v w t quiet dropped k = subst (λ (x : View). call_of x k ≡ None) (sym dropped.only) (quiet k)
 
 -- The words stand behind events of one call, and all else that a call of another thread needs is as before.
 pub record Moved (disk : OnDisk) (v w : View) (t : ℕ) : Type 0 where
@@ -36,6 +24,6 @@ moved_by (suc more) disk v w t o result stands moves =
     moved_by more disk moves.0 w t o result (event.keeps false (λ told. tt) stands) moves.2 in
     record { stands = after.stands; others = KeepsOthers_both v moves.0 w t event.others after.others }
 
-pub moved : (disk : OnDisk) (v w : View) (t : ℕ) (o : Op) (result : StepResult) → Standing false disk v
+pub moved : {disk : OnDisk} {v w : View} {t : ℕ} {o : Op} {result : StepResult} → Standing false disk v
     → MovesOn v w t o result → Moved disk v w t
-moved disk v w t o result stands moves = moved_by moves.more disk v w t o result stands moves.moves
+moved {disk} {v} {w} {t} {o} {result} stands moves = moved_by moves.more disk v w t o result stands moves.moves
