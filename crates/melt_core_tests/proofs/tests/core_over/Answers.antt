@@ -1,4 +1,4 @@
-use Rattle.std.proofs.Common.{◌≡◌, ℕ, ◌^◌, ◌≤◌, Bool, true, false, [], length, subst, sym, arith}
+use Rattle.std.proofs.Common.{◌≡◌, ℕ, ◌^◌, ◌≤◌, Bool, true, false, [], subst, sym, arith}
 use Rattle.std.specs.Option.{is_some}
 use Rattle.std.specs.Prelude.{vec_capacity}
 use Rattle.melt_scion.specs.Heaps.{no_homes_on}
