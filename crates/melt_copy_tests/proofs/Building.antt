@@ -1,8 +1,8 @@
 -- Heaps that are built by hand, for tests: one without objects, and one with three.
-use Rattle.std.proofs.Common.{◌≡◌, ◌≢◌, ℕ, ◌+◌, ◌^◌, ◌<◌, zero, suc, List, [], ◌∷◌, length, replicate, refl, sym, subst}
+use Rattle.std.proofs.Common.{◌≡◌, ℕ, ◌+◌, ◌^◌, ◌<◌, zero, suc, List, [], ◌∷◌, length, replicate, refl, sym, subst}
 use Rattle.std.proofs.Common.{ap, ◌∙◌, arith, lit≤, ◌⊎◌, inl, inr}
 use Rattle.std.specs.Prelude.{Bool, Option, None, Some, true, false, slice_index}
-use Rattle.std.specs.FinMap.{FinMap, empty, get, get-empty}
+use Rattle.std.specs.FinMap.{get-empty}
 use Rattle.std.specs.Ordering.{nat_cmp}
 use Rattle.std.proofs.lemmas.List.{length-replicate, get_or-replicate, get_or_past}
 use Rattle.std.proofs.lemmas.Bool.{cases_lt}
@@ -10,12 +10,11 @@ use Rattle.std.proofs.lemmas.Bool.Decides.{eqb_tells}
 use Rattle.melt_word.specs.Words.{cost_of, header_word, ref_word}
 use Rattle.melt_word.specs.declared.header.Header.{Header}
 use Rattle.melt_word.specs.declared.reference.Ref.TheVariants.{Clean, Stale}
-use Rattle.melt_space.specs.Space.{SpaceWords, word_at, Makes, SetsWord, IsFresh as IsFreshSpace}
+use Rattle.melt_space.specs.Space.{word_at}
 use Rattle.melt_scion.specs.State.{State, HeaderAt, ObjectAt, IsFresh}
 use Rattle.melt_scion.specs.Placed.{Maps, FormedWords, Formed}
 use Rattle.melt_scion.specs.Names.{name_at, SetsName}
-use Rattle.melt_scion.specs.HomeNames.{NamedHomes}
-use Rattle.melt_scion.specs.Scions.{Scions, empty_table}
+use Rattle.melt_scion.specs.Scions.{Scions}
 use Rattle.melt_scion.specs.Heaps.{no_homes_on, scion_in, register_in, state_of, IsFormed, IsSettled, IsNewHeap}
 use Rattle.melt_scion.specs.Heaps.{AreScionsFor, HasNames, NamesMade}
 use Rattle.melt_scion.specs.declared.registers.Registers.{Registers}
@@ -25,6 +24,8 @@ use Rattle.melt_copy.specs.Settling.{IsFormedTo}
 use Rattle.melt_scion.proofs.Geometry.{one_header}
 use Rattle.melt_scion.proofs.Tables.{scions_made}
 use Rattle.melt_scion.proofs.Starting.{Formed_start, new_heap_empty, nothing_at, no_scion_in}
+use Rattle.melt_copy_tests.specs.Built.{IsHeapOf}
+use Rattle.melt_copy_tests.proofs.Built.{word_is, maps_of, heap_maps, heap_tables}
 
 -- no address has a name, and no scion is live
 pub none_at : (n k : ℕ) → name_at (replicate n None) k ≡ None
@@ -263,66 +264,43 @@ module _ (maps : Maps) (s : State) (has : HasWords maps s) where
     ];
   }
 
--- Three objects were made in a new space and numbered in their order. The second got a stale reference to the third,
--- and the number 9; a global refers to the third. The second is in some registers, and all others hold nothing.
-pub record HasThree (h : Heap) (held : List Registers) (names : List (Option ℕ)) (first second third : ℕ) : Type 0 where
-  pub start : SpaceWords
-  pub one : SpaceWords
-  pub two : SpaceWords
-  pub three : SpaceWords
-  pub referring : SpaceWords
-  pub fresh : IsFreshSpace 10 start
-  pub makes_one : Makes start one number_header.shape first
-  pub makes_two : Makes one two pair_header.shape second
-  pub makes_three : Makes two three leaf_header.shape third
-  pub refers : SetsWord three referring 6 (ref_word (Stale third))
-  pub numbered : SetsWord referring h.space 7 9
+abbrev pub three_words : List ℕ
+three_words =
+    header_word number_header ∷ 0 ∷ 0 ∷ header_word pair_header ∷ 0 ∷ ref_word (Stale 8) ∷ 9 ∷ header_word leaf_header
+    ∷ 0 ∷ []
+
+-- The heap was built of the words of three objects, which are numbered in their order. The second has a stale reference
+-- to the third, and the number 9; a global refers to the third. The second is in some registers, and all others hold
+-- nothing.
+pub record HasThree (h : Heap) (held : List Registers) (names : List (Option ℕ)) : Type 0 where
+  pub words : List ℕ
+  pub words_are : words ≡ three_words
+  pub globals : List ℕ
+  pub globals_are : globals ≡ ref_word (Clean 8) ∷ []
+  pub built : IsHeapOf 10 words names globals [] h
   pub unnamed : List (Option ℕ)
   pub names_one : List (Option ℕ)
   pub names_two : List (Option ℕ)
   pub none : unnamed ≡ replicate 10 None
-  pub one_named : SetsName unnamed names_one first 0
-  pub two_named : SetsName names_one names_two second 1
-  pub three_named : SetsName names_two names third 2
-  pub homes : NamedHomes
-  pub no_homes : homes.names ≡ empty
-  pub has : h.names ≡ Some (record { addresses = names; homes = homes })
-  pub scions : h.scions ≡ empty_table 5
-  pub forward : h.forward ≡ []
-  pub globals : h.globals ≡ replicate 1 (ref_word (Clean third))
-  pub registers : (t r : ℕ) → (register_in held t r ≡ 0) ⊎ (register_in held t r ≡ second)
+  pub one_named : SetsName unnamed names_one 1 0
+  pub two_named : SetsName names_one names_two 4 1
+  pub three_named : SetsName names_two names 8 2
+  pub registers : (t r : ℕ) → (register_in held t r ≡ 0) ⊎ (register_in held t r ≡ 4)
 
-pub three_formed : (h : Heap) (held : List Registers) (names : List (Option ℕ)) (first second third : ℕ)
-    → HasThree h held names first second third → IsFormed h held
-three_formed h held names first second third is =
-    let maps : Maps = record { address = name_at names; home = λ k. None } in
-    let s : State = state_of h held no_homes_on in
-    let at_one : first ≡ 1 = omega (arith, is.makes_one.place, is.fresh.used) in
-    let used_one : is.one.used ≡ 3 = omega (arith, is.makes_one.used, is.fresh.used) in
-    let at_four : second ≡ 4 = omega (arith, is.makes_two.place, used_one) in
-    let used_two : is.two.used ≡ 7 = omega (arith, is.makes_two.used, used_one) in
-    let at_eight : third ≡ 8 = omega (arith, is.makes_three.place, used_two) in
-    let used_three : is.three.used ≡ 9 = omega (arith, is.makes_three.used, used_two) in
-    let used : h.space.used ≡ 9 = is.numbered.used ∙ (is.refers.used ∙ used_three) in
-    let size : length h.space.list ≡ 10 =
-    is.numbered.size ∙ (is.refers.size
-    ∙ (is.makes_three.size ∙ (is.makes_two.size ∙ (is.makes_one.size ∙ is.fresh.size)))) in
+pub three_formed : (h : Heap) (held : List Registers) (names : List (Option ℕ)) → HasThree h held names → IsFormed h held
+three_formed h held names is =
+    let stands : (k : ℕ) → k < 9 → word_at h.space (suc k) ≡ slice_index three_words k =
+    word_is 10 is.words three_words h.space is.built.space is.words_are in
+    let used : h.space.used ≡ 9 = is.built.space.used ∙ ap length is.words_are in
     let count : length names ≡ 10 = is.three_named.size
     ∙ (is.two_named.size ∙ (is.one_named.size ∙ (ap length is.none ∙ length-replicate {A = Option ℕ} 10 None))) in
-    let unset : (k : ℕ) → k ≢ 6 → k ≢ 7 → word_at h.space k ≡ word_at is.three k =
-    λ k six seven. is.numbered.others k seven ∙ is.refers.others k six in
-    let early : (k : ℕ) → k ≢ 6 → k ≢ 7 → k < 8 → word_at h.space k ≡ word_at is.two k =
-    λ k six seven below. unset k six seven ∙ is.makes_three.before k (omega (arith, at_eight, below)) in
-    let at_first : (k : ℕ) → k < 4 → word_at h.space k ≡ word_at is.one k =
-    λ k below. early k (omega (arith, below)) (omega (arith, below)) (omega (arith, below))
-    ∙ is.makes_two.before k (omega (arith, at_four, below)) in
     let named_at : (k n : ℕ) → name_at names k ≡ Some n → (k ≡ 1) ⊎ ((k ≡ 4) ⊎ (k ≡ 8)) =
-    λ k n named. elim (eqb_tells k third) [
-      | inl same ↦ inr (inr (same.1 ∙ at_eight))
-      | inr not_third ↦ elim (eqb_tells k second) [
-        | inl same ↦ inr (inl (same.1 ∙ at_four))
-        | inr not_second ↦ elim (eqb_tells k first) [
-          | inl same ↦ inl (same.1 ∙ at_one)
+    λ k n named. elim (eqb_tells k 8) [
+      | inl same ↦ inr (inr same.1)
+      | inr not_third ↦ elim (eqb_tells k 4) [
+        | inl same ↦ inr (inl same.1)
+        | inr not_second ↦ elim (eqb_tells k 1) [
+          | inl same ↦ inl same.1
           | inr not_first ↦ absurd (let none : name_at names k ≡ None = is.three_named.others k not_third.1
               ∙ (is.two_named.others k not_second.1
               ∙ (is.one_named.others k not_first.1
@@ -331,42 +309,30 @@ three_formed h held names first second third is =
       ]
     ] in
     record {
-      maps = maps;
+      maps = maps_of names;
       disk = no_homes_on;
-      names = subst (λ (o : Option heap.Names). HasNames o h.maps maps) (sym is.has)
-          (λ k. refl, λ k. sym (ap (λ (m : FinMap nat_cmp ℕ). get m k) is.no_homes ∙ get-empty {X = ℕ} nat_cmp k));
-      made = record {
-        scions = subst (λ (n : ℕ). AreScionsFor n h.scions) (sym size) (scions_made 10 h.scions is.scions);
-        names = subst (NamesMade (length h.space.list)) (sym is.has) (count ∙ sym size);
-      };
-      formed = words_formed maps s (record {
-        size = size;
+      names = heap_maps 10 is.words names is.globals [] h is.built;
+      made = heap_tables 10 is.words names is.globals [] h is.built count;
+      formed = words_formed (maps_of names) (state_of h held no_homes_on) (record {
+        size = is.built.space.size;
         end = refl;
-        scions = λ k. ap (λ (table : Scions). scion_in table k) is.scions ∙ no_scion_in 5 k;
-        forwards = ap length is.forward;
+        scions = λ k. ap (λ (table : Scions). scion_in table k) is.built.scions ∙ no_scion_in 5 k;
+        forwards = ap length is.built.forward_are;
         free = omega (arith, used);
         named_at = named_at;
-        pair_named = is.three_named.others 4 (omega (arith, at_eight))
-            ∙ subst (λ (c : ℕ). name_at is.names_two c ≡ Some 1) at_four is.two_named.here;
-        leaf_named = subst (λ (c : ℕ). name_at names c ≡ Some 2) at_eight is.three_named.here;
-        number = at_first 1 (omega arith)
-            ∙ subst (λ (c : ℕ). word_at is.one c ≡ header_word number_header) at_one is.makes_one.header;
-        number_home = at_first 2 (omega arith) ∙ is.makes_one.zeros 2 (omega (arith, at_one)) (omega (arith, at_one));
-        pair = early 4 (omega arith) (omega arith) (omega arith)
-            ∙ subst (λ (c : ℕ). word_at is.two c ≡ header_word pair_header) at_four is.makes_two.header;
-        pair_home = early 5 (omega arith) (omega arith) (omega arith)
-            ∙ is.makes_two.zeros 5 (omega (arith, at_four)) (omega (arith, at_four));
-        slot = is.numbered.others 6 (omega arith) ∙ (is.refers.here ∙ ap (λ (c : ℕ). ref_word (Stale c)) at_eight);
-        leaf = unset 8 (omega arith) (omega arith)
-            ∙ subst (λ (c : ℕ). word_at is.three c ≡ header_word leaf_header) at_eight is.makes_three.header;
-        leaf_home = unset 9 (omega arith) (omega arith)
-            ∙ is.makes_three.zeros 9 (omega (arith, at_eight)) (omega (arith, at_eight));
+        pair_named = is.three_named.others 4 (omega arith) ∙ is.two_named.here;
+        leaf_named = is.three_named.here;
+        number = stands 0 (lit≤ tt);
+        number_home = stands 1 (lit≤ tt);
+        pair = stands 3 (lit≤ tt);
+        pair_home = stands 4 (lit≤ tt);
+        slot = stands 5 (lit≤ tt);
+        leaf = stands 7 (lit≤ tt);
+        leaf_home = stands 8 (lit≤ tt);
         globals = λ g below.
-            let one : length h.globals ≡ 1 = ap length is.globals
-            ∙ length-replicate {A = ℕ} 1 (ref_word (Clean third)) in
-            ap (λ (gs : List ℕ). slice_index gs g) is.globals
-            ∙ (get_or-replicate 1 g (ref_word (Clean third)) 0 (omega (arith, one, below))
-            ∙ ap (λ (c : ℕ). ref_word (Clean c)) at_eight);
-        registers = λ t r. elim (is.registers t r) [ inl nothing ↦ inl nothing | inr holds ↦ inr (holds ∙ at_four) ];
+            let are = is.built.globals_are ∙ is.globals_are in
+            let first : g ≡ 0 = omega (arith, ap length are, below) in
+            ap (λ (gs : List ℕ). slice_index gs g) are ∙ ap (slice_index (ref_word (Clean 8) ∷ [])) first;
+        registers = is.registers;
       });
     }

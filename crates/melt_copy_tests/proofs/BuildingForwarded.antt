@@ -1,10 +1,8 @@
 -- A heap that is built by hand, for a test: two leaves that came back from a disk, with an empty forwarding word
 -- between theirs.
-use Rattle.std.proofs.Common.{◌≡◌, ◌≢◌, ◌⊎◌, ℕ, zero, suc, ◌+◌, ◌<◌, ◌≤◌, List, [], ◌∷◌, length, replicate}
+use Rattle.std.proofs.Common.{◌≡◌, ◌⊎◌, ℕ, zero, suc, ◌+◌, ◌<◌, ◌≤◌, List, [], ◌∷◌, length, replicate}
 use Rattle.std.proofs.Common.{refl, sym, subst, ap, ◌∙◌, arith, lit≤, inl, inr}
 use Rattle.std.specs.Prelude.{Option, None, Some, slice_index}
-use Rattle.std.specs.FinMap.{FinMap, empty, get, get-empty}
-use Rattle.std.specs.Ordering.{nat_cmp}
 use Rattle.std.proofs.lemmas.List.{length-replicate}
 use Rattle.std.proofs.lemmas.Bool.Decides.{eqb_tells}
 use Rattle.melt_word.specs.Words.{cost_of, header_word, home_word}
@@ -12,19 +10,18 @@ use Rattle.melt_word.specs.declared.home.HomeWord.{HomeWord}
 use Rattle.melt_word.specs.declared.header.Header.{Header}
 use Rattle.melt_forward.specs.Forwarding.{Sends, forward_word}
 use Rattle.melt_forward.proofs.Pairs.{one_pair, forward_word-filled}
-use Rattle.melt_space.specs.Space.{SpaceWords, word_at, Makes, SetsWord, IsFresh as IsFreshSpace}
+use Rattle.melt_space.specs.Space.{word_at}
 use Rattle.melt_scion.specs.State.{State, HeaderAt, Forwards}
 use Rattle.melt_scion.specs.Placed.{Maps, ForwardMayStand, FormedWords}
 use Rattle.melt_scion.specs.Names.{name_at, SetsName}
-use Rattle.melt_scion.specs.HomeNames.{NamedHomes}
-use Rattle.melt_scion.specs.Scions.{Scions, empty_table}
-use Rattle.melt_scion.specs.Heaps.{OnDisk, AreScionsFor, scion_in, state_of, HasNames, NamesMade}
-use Rattle.melt_scion.specs.declared.heap.Names as heap
+use Rattle.melt_scion.specs.Scions.{Scions}
+use Rattle.melt_scion.specs.Heaps.{OnDisk, scion_in, state_of}
 use Rattle.melt_scion.specs.declared.heap.Heap.{Heap}
 use Rattle.melt_scion.proofs.Geometry.{one_header}
-use Rattle.melt_scion.proofs.Tables.{scions_made}
 use Rattle.melt_scion.proofs.Starting.{no_scion_in}
 use Rattle.melt_copy.specs.Settling.{IsFormedTo}
+use Rattle.melt_copy_tests.specs.Built.{IsHeapOf}
+use Rattle.melt_copy_tests.proofs.Built.{word_is, maps_of, heap_maps, heap_tables}
 use Rattle.melt_copy_tests.proofs.Building.{leaf_header, none_at}
 
 -- a home with no stub yet
@@ -187,75 +184,53 @@ module _ (maps : Maps) (s : State) (has : HasWords maps s) where
     ];
   }
 
--- Two leaves were made in a new space, each got a number and a home, and a forwarding word sends its home to it.
-pub record HasForwarded (h : Heap) (names : List (Option ℕ)) (first second : ℕ) : Type 0 where
-  pub start : SpaceWords
-  pub one : SpaceWords
-  pub two : SpaceWords
-  pub homed : SpaceWords
-  pub fresh : IsFreshSpace 4 start
-  pub makes_one : Makes start one leaf_header.shape first
-  pub makes_two : Makes one two leaf_header.shape second
-  pub sets_one : SetsWord two homed 2 (home_word (Some (home_only 1)))
-  pub sets_two : SetsWord homed h.space 4 (home_word (Some (home_only 3)))
+abbrev pub leaf_words : List ℕ
+leaf_words =
+    header_word leaf_header ∷ home_word (Some (home_only 1)) ∷ header_word leaf_header
+    ∷ home_word (Some (home_only 3)) ∷ []
+
+abbrev pub leaf_forwards : List ℕ
+leaf_forwards = forward_word 1 1 ∷ 0 ∷ forward_word 3 3 ∷ []
+
+-- A heap was built of the words of two leaves, each of which has a number and a home, and a forwarding word sends its
+-- home to it.
+pub record HasForwarded (h : Heap) (names : List (Option ℕ)) : Type 0 where
+  pub words : List ℕ
+  pub words_are : words ≡ leaf_words
+  pub forward : List ℕ
+  pub forward_are : forward ≡ leaf_forwards
+  pub built : IsHeapOf 4 words names [] forward h
   pub unnamed : List (Option ℕ)
   pub names_one : List (Option ℕ)
   pub none : unnamed ≡ replicate 4 None
-  pub one_named : SetsName unnamed names_one first 0
-  pub two_named : SetsName names_one names second 1
-  pub homes : NamedHomes
-  pub no_homes : homes.names ≡ empty
-  pub has : h.names ≡ Some (record { addresses = names; homes = homes })
-  pub scions : h.scions ≡ empty_table 2
-  pub forward : h.forward ≡ forward_word 1 1 ∷ 0 ∷ forward_word 3 3 ∷ []
-  pub globals : h.globals ≡ []
+  pub one_named : SetsName unnamed names_one 1 0
+  pub two_named : SetsName names_one names 3 1
 
-pub forwarded_formed : (h : Heap) (names : List (Option ℕ)) (first second : ℕ) → HasForwarded h names first second
-    → IsFormedTo h 5
-forwarded_formed h names first second is =
-    let maps : Maps = record { address = name_at names; home = λ k. None } in
-    let s : State = state_of h [] two_homes_on in
-    let at_one : first ≡ 1 = omega (arith, is.makes_one.place, is.fresh.used) in
-    let used_one : is.one.used ≡ 2 = omega (arith, is.makes_one.used, is.fresh.used) in
-    let at_three : second ≡ 3 = omega (arith, is.makes_two.place, used_one) in
-    let used_two : is.two.used ≡ 4 = omega (arith, is.makes_two.used, used_one) in
-    let used : h.space.used ≡ 4 = is.sets_two.used ∙ (is.sets_one.used ∙ used_two) in
-    let size : length h.space.list ≡ 4 = is.sets_two.size
-    ∙ (is.sets_one.size ∙ (is.makes_two.size ∙ (is.makes_one.size ∙ is.fresh.size))) in
+pub forwarded_formed : (h : Heap) (names : List (Option ℕ)) → HasForwarded h names → IsFormedTo h 5
+forwarded_formed h names is =
+    let stands : (k : ℕ) → k < 4 → word_at h.space (suc k) ≡ slice_index leaf_words k =
+    word_is 4 is.words leaf_words h.space is.built.space is.words_are in
+    let used : h.space.used ≡ 4 = is.built.space.used ∙ ap length is.words_are in
+    let forwards : h.forward ≡ leaf_forwards = is.built.forward_are ∙ is.forward_are in
     let count : length names ≡ 4 = is.two_named.size ∙ (is.one_named.size
     ∙ (ap length is.none ∙ length-replicate {A = Option ℕ} 4 None)) in
-    let unset : (k : ℕ) → k ≢ 2 → k ≢ 4 → word_at h.space k ≡ word_at is.two k =
-    λ k not_two not_four. is.sets_two.others k not_four ∙ is.sets_one.others k not_two in
-    let at_first : name_at names 1 ≡ Some 0 = is.two_named.others 1 (omega (arith, at_three))
-    ∙ subst (λ (c : ℕ). name_at is.names_one c ≡ Some 0) at_one is.one_named.here in
-    let at_second : name_at names 3 ≡ Some 1 = subst (λ (c : ℕ). name_at names c ≡ Some 1) at_three is.two_named.here in
-    let leaf_one : word_at h.space 1 ≡ header_word leaf_header = unset 1 (omega arith) (omega arith)
-    ∙ (is.makes_two.before 1 (omega (arith, at_three))
-    ∙ subst (λ (c : ℕ). word_at is.one c ≡ header_word leaf_header) at_one is.makes_one.header) in
-    let leaf_two : word_at h.space 3 ≡ header_word leaf_header = unset 3 (omega arith) (omega arith)
-    ∙ subst (λ (c : ℕ). word_at is.two c ≡ header_word leaf_header) at_three is.makes_two.header in
-    let home_one : word_at h.space 2 ≡ home_word (Some (home_only 1)) =
-    is.sets_two.others 2 (omega arith) ∙ is.sets_one.here in
+    let at_first : name_at names 1 ≡ Some 0 = is.two_named.others 1 (omega arith) ∙ is.one_named.here in
     record {
-      maps = maps;
+      maps = maps_of names;
       disk = two_homes_on;
       ends = refl;
-      names = subst (λ (o : Option heap.Names). HasNames o h.maps maps) (sym is.has)
-          (λ k. refl, λ k. sym (ap (λ (m : FinMap nat_cmp ℕ). get m k) is.no_homes ∙ get-empty {X = ℕ} nat_cmp k));
-      made = record {
-        scions = subst (λ (n : ℕ). AreScionsFor n h.scions) (sym size) (scions_made 4 h.scions is.scions);
-        names = subst (NamesMade (length h.space.list)) (sym is.has) (count ∙ sym size);
-      };
-      formed = formed_words maps s (record {
-        size = size;
+      names = heap_maps 4 is.words names [] is.forward h is.built;
+      made = heap_tables 4 is.words names [] is.forward h is.built count;
+      formed = formed_words (maps_of names) (state_of h [] two_homes_on) (record {
+        size = is.built.space.size;
         end = refl;
-        globals = ap length is.globals;
-        forwards = ap length is.forward;
+        globals = ap length is.built.globals_are;
+        forwards = ap length forwards;
         free = omega (arith, used);
-        named_at = λ k n named. elim (eqb_tells k second) [
-          | inl same ↦ inr (same.1 ∙ at_three)
-          | inr not_second ↦ elim (eqb_tells k first) [
-            | inl same ↦ inl (same.1 ∙ at_one)
+        named_at = λ k n named. elim (eqb_tells k 3) [
+          | inl same ↦ inr same.1
+          | inr not_second ↦ elim (eqb_tells k 1) [
+            | inl same ↦ inl same.1
             | inr not_first ↦ absurd (let none : name_at names k ≡ None = is.two_named.others k not_second.1
                 ∙ (is.one_named.others k not_first.1
                 ∙ (ap (λ (l : List (Option ℕ)). name_at l k) is.none ∙ none_at 4 k)) in cc)
@@ -263,21 +238,21 @@ forwarded_formed h names first second is =
         ];
         named = λ k leaf. elim leaf [
           | inl one ↦ (0, ap (name_at names) one ∙ at_first)
-          | inr three ↦ (1, ap (name_at names) three ∙ at_second)
+          | inr three ↦ (1, ap (name_at names) three ∙ is.two_named.here)
         ];
         leaf = λ k leaf. elim leaf [
-          | inl one ↦ ap (word_at h.space) one ∙ leaf_one
-          | inr three ↦ ap (word_at h.space) three ∙ leaf_two
+          | inl one ↦ ap (word_at h.space) one ∙ stands 0 (lit≤ tt)
+          | inr three ↦ ap (word_at h.space) three ∙ stands 2 (lit≤ tt)
         ];
         leaf_home = λ k leaf. elim leaf [
           | inl one ↦ ap (λ (c : ℕ). word_at h.space (c + 1)) one
-              ∙ (home_one ∙ ap (λ (c : ℕ). home_word (Some (home_only c))) (sym one))
+              ∙ (stands 1 (lit≤ tt) ∙ ap (λ (c : ℕ). home_word (Some (home_only c))) (sym one))
           | inr three ↦ ap (λ (c : ℕ). word_at h.space (c + 1)) three
-              ∙ (is.sets_two.here ∙ ap (λ (c : ℕ). home_word (Some (home_only c))) (sym three))
+              ∙ (stands 3 (lit≤ tt) ∙ ap (λ (c : ℕ). home_word (Some (home_only c))) (sym three))
         ];
-        no_scion = λ k. ap (λ (table : Scions). scion_in table k) is.scions ∙ no_scion_in 2 k;
-        first = ap (λ (xs : List ℕ). slice_index xs 0) is.forward;
-        between = ap (λ (xs : List ℕ). slice_index xs 1) is.forward;
-        last = ap (λ (xs : List ℕ). slice_index xs 2) is.forward;
+        no_scion = λ k. ap (λ (table : Scions). scion_in table k) is.built.scions ∙ no_scion_in 2 k;
+        first = ap (λ (xs : List ℕ). slice_index xs 0) forwards;
+        between = ap (λ (xs : List ℕ). slice_index xs 1) forwards;
+        last = ap (λ (xs : List ℕ). slice_index xs 2) forwards;
       });
     }

@@ -1,28 +1,26 @@
 -- A heap that is built by hand, for a test: two leaves, of which a live scion names the second.
-use Rattle.std.proofs.Common.{◌≡◌, ℕ, ◌+◌, List, [], ◌∷◌, length, replicate, refl, sym, subst, ap, ◌∙◌}
+use Rattle.std.proofs.Common.{◌≡◌, ℕ, suc, ◌+◌, ◌<◌, List, [], ◌∷◌, length, replicate, refl, sym, subst, ap, ◌∙◌}
 use Rattle.std.proofs.Common.{arith, lit≤, inl, inr}
-use Rattle.std.specs.Prelude.{Option, None, Some}
+use Rattle.std.specs.Prelude.{Option, None, Some, slice_index}
 use Rattle.std.specs.Option.{option_map}
-use Rattle.std.specs.FinMap.{FinMap, empty, get, get-empty}
-use Rattle.std.specs.Ordering.{nat_cmp}
 use Rattle.std.proofs.lemmas.List.{length-replicate}
 use Rattle.std.proofs.lemmas.Bool.Decides.{eqb_tells}
 use Rattle.melt_word.specs.Words.{cost_of, header_word, home_word}
 use Rattle.melt_word.specs.declared.home.HomeWord.{HomeWord}
 use Rattle.melt_word.specs.declared.header.Header.{Header}
-use Rattle.melt_space.specs.Space.{SpaceWords, word_at, Makes, SetsWord, IsFresh as IsFreshSpace}
+use Rattle.melt_space.specs.Space.{word_at}
 use Rattle.melt_scion.specs.State.{Scion, State, HeaderAt, ObjectAt}
 use Rattle.melt_scion.specs.Placed.{Maps, ScionStands, FormedWords, Formed}
 use Rattle.melt_scion.specs.Names.{name_at, SetsName}
-use Rattle.melt_scion.specs.HomeNames.{NamedHomes}
-use Rattle.melt_scion.specs.Scions.{Scions, Adds, IsTable, empty_table, scion_at}
-use Rattle.melt_scion.specs.Heaps.{OnDisk, scion_in, register_in, state_of, IsFormed, HasNames, NamesMade}
+use Rattle.melt_scion.specs.Scions.{Scions, Adds, IsTable, scion_at}
+use Rattle.melt_scion.specs.Heaps.{OnDisk, scion_in, register_in, state_of, IsFormed}
 use Rattle.melt_scion.specs.declared.registers.Registers.{Registers}
-use Rattle.melt_scion.specs.declared.heap.Names as heap
 use Rattle.melt_scion.specs.declared.heap.Heap.{Heap}
 use Rattle.melt_scion.proofs.Geometry.{one_header}
 use Rattle.melt_scion.proofs.Tables.{scions_made, scions_kept}
 use Rattle.melt_scion.proofs.Starting.{no_scion_in}
+use Rattle.melt_copy_tests.specs.Built.{IsHeapOf}
+use Rattle.melt_copy_tests.proofs.Built.{word_is, maps_of, heap_maps, heap_tables}
 use Rattle.melt_copy_tests.proofs.Building.{leaf_header, none_at}
 
 -- the home word of the second leaf, and what its scion names
@@ -118,81 +116,67 @@ module _ (maps : Maps) (s : State) (has : HasWords maps s) where
   words_formed : Formed maps s
   words_formed = record { words = formed_words; registers = λ t r. inl (has.registers t r) }
 
--- Two leaves were made in a new space, the second got a number and a live scion, and its home word names that scion.
--- All registers hold nothing.
-pub record HasScion (h : Heap) (held : List Registers) (names : List (Option ℕ))
-    (first second scion : ℕ) : Type 0 where
-  pub start : SpaceWords
-  pub one : SpaceWords
-  pub two : SpaceWords
-  pub fresh : IsFreshSpace 4 start
-  pub makes_one : Makes start one leaf_header.shape first
-  pub makes_two : Makes one two leaf_header.shape second
-  pub sets : SetsWord two h.space 4 (home_word (Some first_home))
+abbrev pub two_words : List ℕ
+two_words = header_word leaf_header ∷ 0 ∷ header_word leaf_header ∷ home_word (Some first_home) ∷ []
+
+-- A heap was built of the words of two leaves, of which the second got a number and a live scion, and its home word
+-- names that scion. All registers hold nothing.
+pub record HasScion (start : Heap) (table : Scions) (held : List Registers) (names : List (Option ℕ))
+    (scion : ℕ) : Type 0 where
+  pub words : List ℕ
+  pub words_are : words ≡ two_words
+  pub built : IsHeapOf 4 words names [] [] start
   pub unnamed : List (Option ℕ)
   pub none : unnamed ≡ replicate 4 None
-  pub named : SetsName unnamed names second 0
-  pub homes : NamedHomes
-  pub no_homes : homes.names ≡ empty
-  pub has : h.names ≡ Some (record { addresses = names; homes = homes })
-  pub table : Scions
-  pub no_scions : table ≡ empty_table 2
-  pub adds : Adds table h.scions 1 second scion
-  pub is_table : IsTable h.scions
-  pub forward : h.forward ≡ []
-  pub globals : h.globals ≡ []
+  pub named : SetsName unnamed names 3 0
+  pub adds : Adds start.scions table 1 3 scion
+  pub is_table : IsTable table
   pub registers : (t r : ℕ) → register_in held t r ≡ 0
 
-pub scion_formed : (h : Heap) (held : List Registers) (names : List (Option ℕ)) (first second scion : ℕ)
-    → HasScion h held names first second scion → IsFormed h held
-scion_formed h held names first second scion is =
-    let maps : Maps = record { address = name_at names; home = λ k. None } in
-    let s : State = state_of h held one_home_on in
-    let used_one : is.one.used ≡ 2 = omega (arith, is.makes_one.used, is.fresh.used) in
-    let at_three : second ≡ 3 = omega (arith, is.makes_two.place, used_one) in
-    let used_two : is.two.used ≡ 4 = omega (arith, is.makes_two.used, used_one) in
-    let used : h.space.used ≡ 4 = is.sets.used ∙ used_two in
-    let size : length h.space.list ≡ 4 =
-    is.sets.size ∙ (is.makes_two.size ∙ (is.makes_one.size ∙ is.fresh.size)) in
+pub scion_formed : (start : Heap) (table : Scions) (held : List Registers) (names : List (Option ℕ)) (scion : ℕ)
+    → HasScion start table held names scion → IsFormed (record start { scions = table }) held
+scion_formed start table held names scion is =
+    let h : Heap = record start { scions = table } in
+    let stands : (k : ℕ) → k < 4 → word_at start.space (suc k) ≡ slice_index two_words k =
+    word_is 4 is.words two_words start.space is.built.space is.words_are in
+    let used : start.space.used ≡ 4 = is.built.space.used ∙ ap length is.words_are in
     let count : length names ≡ 4 =
     is.named.size ∙ (ap length is.none ∙ length-replicate {A = Option ℕ} 4 None) in
-    let given : 1 ∷ 2 ∷ [] ≡ scion ∷ h.scions.unused =
-    sym (ap (λ (table : Scions). table.unused) is.no_scions) ∙ is.adds.given in
+    let given : 1 ∷ 2 ∷ [] ≡ scion ∷ table.unused =
+    sym (ap (λ (table : Scions). table.unused) is.built.scions) ∙ is.adds.given in
     let number : scion ≡ 1 = cc in
-    let here : scion_at h.scions 1 ≡ Some (1, second) =
-    subst (λ (c : ℕ). scion_at h.scions c ≡ Some (1, second)) number is.adds.here in
+    let here : scion_at table 1 ≡ Some (1, 3) =
+    subst (λ (c : ℕ). scion_at table c ≡ Some (1, 3)) number is.adds.here in
     record {
-      maps = maps;
+      maps = maps_of names;
       disk = one_home_on;
-      names = subst (λ (o : Option heap.Names). HasNames o h.maps maps) (sym is.has)
-          (λ k. refl, λ k. sym (ap (λ (m : FinMap nat_cmp ℕ). get m k) is.no_homes ∙ get-empty {X = ℕ} nat_cmp k));
+      names = heap_maps 4 is.words names [] [] start is.built;
       made = record {
-        scions = scions_kept 4 (length h.space.list) is.table h.scions
-            (record { is_table = is.is_table; size = is.adds.size }) size (scions_made 4 is.table is.no_scions);
-        names = subst (NamesMade (length h.space.list)) (sym is.has) (count ∙ sym size);
+        scions = scions_kept 4 (length start.space.list) start.scions table
+            (record { is_table = is.is_table; size = is.adds.size }) is.built.space.size
+            (scions_made 4 start.scions is.built.scions);
+        names = (heap_tables 4 is.words names [] [] start is.built count).names;
       };
-      formed = words_formed maps s (record {
-        size = size;
+      formed = words_formed (maps_of names) (state_of h held one_home_on) (record {
+        size = is.built.space.size;
         end = refl;
-        globals = ap length is.globals;
-        forwards = ap length is.forward;
+        globals = ap length is.built.globals_are;
+        forwards = ap length is.built.forward_are;
         free = omega (arith, used);
-        named_at = λ k n named. elim (eqb_tells k second) [
-          | inl same ↦ same.1 ∙ at_three
+        named_at = λ k n named. elim (eqb_tells k 3) [
+          | inl same ↦ same.1
           | inr other ↦ absurd (let none : name_at names k ≡ None = is.named.others k other.1
               ∙ (ap (λ (l : List (Option ℕ)). name_at l k) is.none ∙ none_at 4 k) in cc)
         ];
-        leaf_named = subst (λ (c : ℕ). name_at names c ≡ Some 0) at_three is.named.here;
-        leaf = is.sets.others 3 (omega arith)
-            ∙ subst (λ (c : ℕ). word_at is.two c ≡ header_word leaf_header) at_three is.makes_two.header;
-        leaf_home = is.sets.here;
-        scion = ap (option_map (λ (pair : ℕ × ℕ). record { home = pair.0; address = pair.1 })) here
-            ∙ ap (λ (c : ℕ). Some (first_scion c)) at_three;
+        leaf_named = is.named.here;
+        leaf = stands 2 (lit≤ tt);
+        leaf_home = stands 3 (lit≤ tt);
+        scion = ap (option_map (λ (pair : ℕ × ℕ). record { home = pair.0; address = pair.1 })) here;
         one_scion = λ k x live. elim (eqb_tells k scion) [
           | inl same ↦ same.1 ∙ number
-          | inr other ↦ absurd (let none : scion_in h.scions k ≡ None =
+          | inr other ↦ absurd (let none : scion_in table k ≡ None =
               ap (option_map (λ (pair : ℕ × ℕ). record { home = pair.0; address = pair.1 }))
-              (is.adds.others k other.1 ∙ ap (λ (table : Scions). scion_at table k) is.no_scions)
+              (is.adds.others k other.1 ∙ ap (λ (table : Scions). scion_at table k) is.built.scions)
               ∙ no_scion_in 2 k in cc)
         ];
         registers = is.registers;

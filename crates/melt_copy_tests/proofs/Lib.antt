@@ -1,3 +1,4 @@
 mod BuildingForwarded
 mod BuildingScion
+pub mod Built
 pub mod Building

@@ -1,18 +1,17 @@
-ghost use Rattle.std.specs.Prelude.{◌≡◌, ◌<◌, length, IfOk};
-ghost use Rattle.melt_word.specs.Words.{IsShape};
+ghost use Rattle.std.specs.Prelude.{◌≡◌, ◌<◌, ◌∷◌, [], length, replicate, IfOk, OnOk};
+ghost use Rattle.melt_word.specs.Words.{IsShape, header_word};
 ghost use Rattle.melt_scion.specs.Heaps.{IsFormed, IsSettled};
 ghost use Rattle.melt_copy.specs.Copying.{IsCopying};
 ghost use Rattle.melt_copy.specs.Settling.{IsFormedTo};
 
-use melt_copy::*;
+use crate::heaps::{heap_of, used_words};
+use melt_copy::{Forwarding, LiveSet, Relocation, collect_copy, reach, settle};
 use melt_disk::StaleSpace;
 use melt_forward::pack;
-use melt_io::{Failed, MemDisk, SteadyDisk};
+use melt_io::{Failed, MemDisk, StaleDisk, SteadyDisk};
 use melt_model::{Journal, NoMemory, Phase, Steps};
-use melt_scion::{
-    AddressNames, Forwards, GhostMaps, Globals, Heap, HomeNames, Names, Registers, ScionTable,
-};
-use melt_space::Space;
+use melt_same::same;
+use melt_scion::{AddressNames, Heap, Names, Registers};
 use melt_word::{Header, HomeWord, Ref, Shape, encode_header, encode_home, encode_ref};
 use std::alloc::Global;
 use std::marker::Brand;
@@ -56,7 +55,9 @@ fn reach_uncounted<L: Ledger>(
 
 /// The journal of a collection after which so many words are in use, and so many of these are those of objects in
 /// registers.
-fn journal_of(phase: Phase, live: u32, held: u32) -> Journal {
+fn journal_of(phase: Phase, live: u32, held: u32) -> Journal
+    ensures { result.phase ≡ phase }
+{
     Journal {
         phase,
         held,
@@ -71,40 +72,34 @@ const PAIR: Shape = Shape { refs: 1, nums: 1 };
 
 const LEAF: Shape = Shape { refs: 0, nums: 0 };
 
+/// Registers of two threads. Register 3 of the second one holds an object, and all others nothing.
+fn second_holds(address: u32) -> [Registers; 2]
+    ensures { result ≡ record { regs = replicate 16 0 }
+        ∷ record { regs = 0 ∷ 0 ∷ 0 ∷ address ∷ replicate 12 0 } ∷ [] }
+{
+    let mut regs = [0; 16];
+    regs[3] = address;
+    [Registers { regs: [0; 16] }, Registers { regs }]
+}
+
 /// A heap of 10 words with three objects. The first is not reached. The second is a pair in register 3 of thread 1,
 /// with a stale reference to the third and the number 9. The third is a leaf, to which a global refers.
 fn three_objects(alloc: Global) -> Result<(Heap, [Registers; 2]), Fail>
     ensures formed { IfOk result (λ made. IsFormed made.0 made.1) }
     ensures settled { IfOk result (λ made. IsSettled made.0) }
 {
-    let mut space = Space::new(alloc, 10)?;
-    let first = space.make(Shape { refs: 0, nums: 1 })?;
-    let second = space.make(PAIR)?;
-    let third = space.make(LEAF)?;
-    space.set_word(6, encode_ref(Ref::Stale(third)));
-    space.set_word(7, 9);
+    let first = header(Shape { refs: 0, nums: 1 }, false);
+    let second = header(PAIR, false);
+    let third = header(LEAF, false);
+    let slot = encode_ref(Ref::Stale(8));
+    let words = [first, 0, 0, second, 0, slot, 9, third, 0];
+    let global = encode_ref(Ref::Clean(8));
     let mut addresses = AddressNames::new(alloc, 10)?;
-    addresses.set(first, 0);
-    addresses.set(second, 1);
-    addresses.set(third, 2);
-    let items = vec![in alloc; encode_ref(Ref::Clean(third)); 1]?;
-    let scions = ScionTable::new(alloc, 5)?;
-    let heap = Heap {
-        space,
-        scions,
-        globals: Globals { items },
-        forward: Forwards {
-            items: Vec::new(alloc),
-        },
-        names: Some(Names {
-            addresses,
-            homes: HomeNames::new(alloc),
-        }),
-        maps: GhostMaps::none(),
-    };
-    let mut regs = [0; 16];
-    regs[3] = second;
-    Ok((heap, [Registers { regs: [0; 16] }, Registers { regs }]))
+    addresses.set(1, 0);
+    addresses.set(4, 1);
+    addresses.set(8, 2);
+    let heap = heap_of(alloc, 10, &words, addresses, &[global], &[])?;
+    Ok((heap, second_holds(4)))
 }
 
 /// The home of the object that a scion names.
@@ -115,37 +110,65 @@ fn two_leaves(alloc: Global) -> Result<(Heap, [Registers; 1]), Fail>
     ensures formed { IfOk result (λ made. IsFormed made.0 made.1) }
     ensures settled { IfOk result (λ made. IsSettled made.0) }
 {
-    let mut space = Space::new(alloc, 4)?;
-    let _first = space.make(LEAF)?;
-    let second = space.make(LEAF)?;
-    space.set_word(4, encode_home(Some(HOME)));
+    let leaf = header(LEAF, false);
+    let words = [leaf, 0, leaf, encode_home(Some(HOME))];
     let mut addresses = AddressNames::new(alloc, 4)?;
-    addresses.set(second, 0);
-    let mut scions = ScionTable::new(alloc, 2)?;
-    let _scion = scions.add(HOME.home, second);
-    let heap = Heap {
-        space,
-        scions,
-        globals: Globals {
-            items: Vec::new(alloc),
-        },
-        forward: Forwards {
-            items: Vec::new(alloc),
-        },
-        names: Some(Names {
-            addresses,
-            homes: HomeNames::new(alloc),
-        }),
-        maps: GhostMaps::none(),
-    };
+    addresses.set(3, 0);
+    let mut heap = heap_of(alloc, 4, &words, addresses, &[], &[])?;
+    let _scion = heap.scions.add(HOME.home, 3);
     Ok((heap, [Registers { regs: [0; 16] }]))
 }
 
 /// The word of a header.
 fn header(shape: Shape, stale: bool) -> u64
     requires { IsShape shape }
+    ensures { result ≡ header_word (record { shape = shape; stale = stale }) }
 {
     encode_header(Header { shape, stale })
+}
+
+/// Collects a heap in the phase of this journal. Fails where the journal, the words in use, globals or registers are
+/// others than these, or there are more words or fewer than before.
+fn collect_to(
+    alloc: Global,
+    heap: &mut Heap,
+    held: &mut [Registers],
+    journal: Journal,
+    words: &[u64],
+    globals: &[u64],
+    registers: &[Registers],
+) -> Result<(), Fail>
+    requires formed { IsFormed heap.old held.old }
+    requires settled { IsSettled heap.old }
+    requires phase { IsCopying journal.phase }
+{
+    let count = heap.space.words();
+    let made = collect_uncounted::<Brand>(alloc, heap, held, journal.phase, Blank::new(1))?;
+    same(made, journal)?;
+    same(heap.space.words(), count)?;
+    same(used_words(&heap.space), words)?;
+    same(heap.globals.items.as_slice(), globals)?;
+    same(&*held, registers)
+}
+
+/// Fails where an object has another number than is wanted at its address.
+fn same_numbers(names: &Option<Names>, wanted: &[(u32, Option<u32>)]) -> Result<(), Fail> {
+    let names = names.as_ref().ok_or("no names")?;
+    for (address, want) in wanted {
+        same((*address, names.addresses.get(*address)), (*address, *want))?;
+    }
+    Ok(())
+}
+
+/// Fails where an object goes to another address than is wanted, or one was found where none is.
+fn same_places(forwarding: &Forwarding, wanted: &[(u32, u32)]) -> Result<(), Fail> {
+    for (address, want) in wanted {
+        same(
+            (*address, forwarding.forwarded(*address)),
+            (*address, *want),
+        )?;
+    }
+    Ok(())
 }
 
 #[test]
@@ -153,101 +176,100 @@ fn a_heap_without_objects_stays_so(rt: HostRuntime) -> Result<(), Fail> {
     let alloc = rt.alloc();
     let mut heap = Heap::new(alloc, 4, 1, 2, true)?;
     let mut held = [Registers { regs: [0; 16] }];
-    let blank = Blank::new(1);
-    let journal = collect_uncounted::<Brand>(alloc, &mut heap, &mut held, Phase::Inactive, blank)?;
-    assert_eq!(rt; journal, journal_of(Phase::Inactive, 0, 0));
-    assert_eq!(rt; heap.space.words(), 4);
-    assert_eq!(rt; heap.space.used(), 0);
-    assert_eq!(rt; heap.globals.items.as_slice(), [0].as_slice());
-    assert_eq!(rt; held, [Registers { regs: [0; 16] }]);
-    Ok(())
+    let journal = journal_of(Phase::Inactive, 0, 0);
+    let registers = [Registers { regs: [0; 16] }];
+    collect_to(alloc, &mut heap, &mut held, journal, &[], &[0], &registers)
+}
+
+/// Collects the heap of `three_objects`, and marks nothing.
+fn collect_three(alloc: Global, heap: &mut Heap, held: &mut [Registers]) -> Result<(), Fail>
+    requires formed { IsFormed heap.old held.old }
+    requires settled { IsSettled heap.old }
+{
+    let journal = journal_of(Phase::Inactive, 6, 4);
+    let pair = header(PAIR, false);
+    let leaf = header(LEAF, false);
+    let words = [pair, 0, encode_ref(Ref::Stale(5)), 9, leaf, 0];
+    let globals = [encode_ref(Ref::Clean(5))];
+    collect_to(
+        alloc,
+        heap,
+        held,
+        journal,
+        &words,
+        &globals,
+        &second_holds(1),
+    )
 }
 
 #[test]
 fn what_is_reached_moves_to_the_front(rt: HostRuntime) -> Result<(), Fail> {
     let alloc = rt.alloc();
     let (mut heap, mut held) = three_objects(alloc)?;
-    let blank = Blank::new(1);
-    let journal = collect_uncounted::<Brand>(alloc, &mut heap, &mut held, Phase::Inactive, blank)?;
-    assert_eq!(rt; journal, journal_of(Phase::Inactive, 6, 4));
-    assert_eq!(rt; heap.space.words(), 10);
-    assert_eq!(rt; heap.space.used(), 6);
-    assert_eq!(rt; heap.space.word(1), header(PAIR, false));
-    assert_eq!(rt; heap.space.word(2), 0);
-    assert_eq!(rt; heap.space.word(3), encode_ref(Ref::Stale(5)));
-    assert_eq!(rt; heap.space.word(4), 9);
-    assert_eq!(rt; heap.space.word(5), header(LEAF, false));
-    assert_eq!(rt; heap.space.word(6), 0);
-    assert_eq!(rt;
-        heap.globals.items.as_slice(),
-        [encode_ref(Ref::Clean(5))].as_slice()
-    );
-    assert_eq!(rt; held[0].regs, [0; 16]);
-    assert_eq!(rt; held[1].regs[2], 0);
-    assert_eq!(rt; held[1].regs[3], 1);
-    Ok(())
+    collect_three(alloc, &mut heap, &mut held)
 }
 
 #[test]
 fn numbers_go_with_what_is_reached(rt: HostRuntime) -> Result<(), Fail> {
     let alloc = rt.alloc();
     let (mut heap, mut held) = three_objects(alloc)?;
-    let blank = Blank::new(1);
-    let journal = collect_uncounted::<Brand>(alloc, &mut heap, &mut held, Phase::Inactive, blank)?;
-    assert_eq!(rt; journal, journal_of(Phase::Inactive, 6, 4));
-    assert!(rt; heap.names.is_some());
-    if let Some(names) = &heap.names {
-        for (address, want) in [(1, Some(1)), (4, None), (5, Some(2)), (8, None)] {
-            assert_eq!(rt; names.addresses.get(address), want, "at {address}");
-        }
-    }
-    Ok(())
+    collect_three(alloc, &mut heap, &mut held)?;
+    let wanted = [(1, Some(1)), (4, None), (5, Some(2)), (8, None)];
+    same_numbers(&heap.names, &wanted)
 }
 
 #[test]
 fn mark_leaves_only_held_objects_without_the_stale_bit(rt: HostRuntime) -> Result<(), Fail> {
     let alloc = rt.alloc();
     let (mut heap, mut held) = three_objects(alloc)?;
-    let blank = Blank::new(1);
-    let journal = collect_uncounted::<Brand>(alloc, &mut heap, &mut held, Phase::Mark, blank)?;
-    assert_eq!(rt; journal, journal_of(Phase::Mark, 6, 4));
-    assert_eq!(rt; heap.space.used(), 6);
-    assert_eq!(rt; heap.space.word(1), header(PAIR, false));
-    assert_eq!(rt; heap.space.word(2), 0);
-    assert_eq!(rt; heap.space.word(3), encode_ref(Ref::Stale(5)));
-    assert_eq!(rt; heap.space.word(4), 9);
-    assert_eq!(rt; heap.space.word(5), header(LEAF, true));
-    assert_eq!(rt; heap.space.word(6), 0);
-    assert_eq!(rt;
-        heap.globals.items.as_slice(),
-        [encode_ref(Ref::Stale(5))].as_slice()
-    );
-    assert_eq!(rt; held[0].regs, [0; 16]);
-    assert_eq!(rt; held[1].regs[3], 1);
-    Ok(())
+    let journal = journal_of(Phase::Mark, 6, 4);
+    let pair = header(PAIR, false);
+    let leaf = header(LEAF, true);
+    let words = [pair, 0, encode_ref(Ref::Stale(5)), 9, leaf, 0];
+    let globals = [encode_ref(Ref::Stale(5))];
+    let registers = second_holds(1);
+    collect_to(
+        alloc, &mut heap, &mut held, journal, &words, &globals, &registers,
+    )
+}
+
+/// Fails where the leaf that a scion named is not at 1, with its scion and its number.
+fn same_leaf(heap: &Heap) -> Result<(), Fail> {
+    same(heap.scions.first(), Some(1))?;
+    let scions = [heap.scions.get(1), heap.scions.get(2)];
+    same(scions, [Some((HOME.home, 1)), None])?;
+    same_numbers(&heap.names, &[(1, Some(0)), (3, None)])
 }
 
 #[test]
 fn an_object_that_a_scion_alone_names_stays(rt: HostRuntime) -> Result<(), Fail> {
     let alloc = rt.alloc();
     let (mut heap, mut held) = two_leaves(alloc)?;
-    let blank = Blank::new(1);
-    let journal = collect_uncounted::<Brand>(alloc, &mut heap, &mut held, Phase::Inactive, blank)?;
-    assert_eq!(rt; journal, journal_of(Phase::Inactive, 2, 0));
-    assert_eq!(rt; heap.space.words(), 4);
-    assert_eq!(rt; heap.space.used(), 2);
-    assert_eq!(rt; heap.space.word(1), header(LEAF, false));
-    assert_eq!(rt; heap.space.word(2), encode_home(Some(HOME)));
-    assert_eq!(rt; heap.scions.first(), Some(1));
-    assert_eq!(rt; heap.scions.get(1), Some((HOME.home, 1)));
-    assert_eq!(rt; heap.scions.get(2), None);
-    assert!(rt; heap.names.is_some());
-    if let Some(names) = &heap.names {
-        for (address, want) in [(1, Some(0)), (3, None)] {
-            assert_eq!(rt; names.addresses.get(address), want, "at {address}");
-        }
-    }
-    Ok(())
+    let journal = journal_of(Phase::Inactive, 2, 0);
+    let words = [header(LEAF, false), encode_home(Some(HOME))];
+    let registers = [Registers { regs: [0; 16] }];
+    collect_to(
+        alloc,
+        &mut heap,
+        &mut held,
+        journal,
+        &words,
+        &[],
+        &registers,
+    )?;
+    same_leaf(&heap)
+}
+
+/// Fails where other objects were found than are wanted, of other sizes, or they go to other places.
+fn same_live(
+    live: &LiveSet,
+    moves: &[Relocation],
+    sizes: (u32, usize, u32),
+    places: &[(u32, u32)],
+) -> Result<(), Fail> {
+    same(live.forwarding.moves.as_slice(), moves)?;
+    same((live.forwarding.next, live.front, live.held_words), sizes)?;
+    same_places(&live.forwarding, places)
 }
 
 #[test]
@@ -265,14 +287,8 @@ fn what_is_reached_is_found_once_and_the_held_first(rt: HostRuntime) -> Result<(
         to: 5,
         shape: LEAF,
     };
-    assert_eq!(rt; live.forwarding.moves.as_slice(), [pair, leaf].as_slice());
-    assert_eq!(rt; live.forwarding.next, 7);
-    assert_eq!(rt; live.front, 1);
-    assert_eq!(rt; live.held_words, 4);
-    for (address, want) in [(0, 0), (1, 0), (4, 1), (5, 0), (8, 5), (9, 0), (10, 0)] {
-        assert_eq!(rt; live.forwarding.forwarded(address), want, "at {address}");
-    }
-    Ok(())
+    let places = [(0, 0), (1, 0), (4, 1), (5, 0), (8, 5), (9, 0), (10, 0)];
+    same_live(&live, &[pair, leaf], (7, 1, 4), &places)
 }
 
 #[test]
@@ -285,14 +301,7 @@ fn an_object_that_a_scion_alone_names_is_found(rt: HostRuntime) -> Result<(), Fa
         to: 1,
         shape: LEAF,
     };
-    assert_eq!(rt; live.forwarding.moves.as_slice(), [leaf].as_slice());
-    assert_eq!(rt; live.forwarding.next, 3);
-    assert_eq!(rt; live.front, 0);
-    assert_eq!(rt; live.held_words, 0);
-    for (address, want) in [(1, 0), (2, 0), (3, 1)] {
-        assert_eq!(rt; live.forwarding.forwarded(address), want, "at {address}");
-    }
-    Ok(())
+    same_live(&live, &[leaf], (3, 0, 0), &[(1, 0), (2, 0), (3, 1)])
 }
 
 #[test]
@@ -304,11 +313,20 @@ fn objects_at_an_even_and_at_the_next_odd_address_are_told_apart(
     forwarding.entries[0] = 11;
     forwarding.entries[2] = 2;
     forwarding.entries[3] = 5;
-    let wanted = [0, 5, 0, 0, 1, 0, 0, 2, 0, 0, 0];
-    for (address, want) in wanted.iter().enumerate() {
-        assert_eq!(rt; forwarding.forwarded(address as u32), *want, "at {address}");
-    }
-    Ok(())
+    let places = [
+        (0, 0),
+        (1, 5),
+        (2, 0),
+        (3, 0),
+        (4, 1),
+        (5, 0),
+        (6, 0),
+        (7, 2),
+        (8, 0),
+        (9, 0),
+        (10, 0),
+    ];
+    same_places(&forwarding, &places)
 }
 
 /// A heap of 4 words with two leaves that came back from the homes 1 and 3. The second of its three forwarding words is
@@ -317,29 +335,42 @@ fn two_forwarded(alloc: Global) -> Result<Heap, Fail>
     ensures formed { IfOk result (λ heap. IsFormedTo heap 5) }
     ensures size { IfOk result (λ heap. length heap.space.list ≡ 4) }
 {
-    let mut space = Space::new(alloc, 4)?;
-    let first = space.make(LEAF)?;
-    let second = space.make(LEAF)?;
-    space.set_word(2, encode_home(Some(HomeWord { home: 1, scion: 0 })));
-    space.set_word(4, encode_home(Some(HomeWord { home: 3, scion: 0 })));
+    let leaf = header(LEAF, false);
+    let first = encode_home(Some(HomeWord { home: 1, scion: 0 }));
+    let second = encode_home(Some(HomeWord { home: 3, scion: 0 }));
+    let words = [leaf, first, leaf, second];
+    let forward = [pack(1, 1), 0, pack(3, 3)];
     let mut addresses = AddressNames::new(alloc, 4)?;
-    addresses.set(first, 0);
-    addresses.set(second, 1);
-    let scions = ScionTable::new(alloc, 2)?;
-    let items = vec![in alloc; pack(1, 1), 0, pack(3, 3)]?;
-    Ok(Heap {
-        space,
-        scions,
-        globals: Globals {
-            items: Vec::new(alloc),
-        },
-        forward: Forwards { items },
-        names: Some(Names {
-            addresses,
-            homes: HomeNames::new(alloc),
-        }),
-        maps: GhostMaps::none(),
-    })
+    addresses.set(1, 0);
+    addresses.set(3, 1);
+    Ok(heap_of(alloc, 4, &words, addresses, &[], &forward)?)
+}
+
+/// Reserves the homes 1 and 3, for two leaves.
+fn reserve_two<D: StaleDisk>(space: &mut StaleSpace<'_, D>) -> Result<(), Fail>
+    requires { space.old.end ≡ 1 }
+    ensures { OnOk result (space.new.end ≡ 5) }
+{
+    let first = space.reserve_home(LEAF)?;
+    let second = space.reserve_home(LEAF)?;
+    same((first, second), (1, 3))
+}
+
+/// The words of the disk behind both are settled: the Stub of each leaf, with its scion.
+const STUBS: [u64; 5] = [0, 4_294_967_298, 1, 12_884_901_890, 2];
+
+/// Settles the heap of `two_forwarded`.
+fn settle_two(heap: &mut Heap, disk: &mut SteadyDisk) -> Result<(), Fail>
+    requires { IsFormedTo heap.old 5 }
+{
+    let mut space = StaleSpace::new(disk, 9);
+    reserve_two(&mut space)?;
+    same(settle(heap, &mut space), Ok(2))?;
+    same(heap.forward.items.as_slice(), [0, 0, 0].as_slice())?;
+    let scions = [heap.scions.get(1), heap.scions.get(2)];
+    same(scions, [Some((1, 1)), Some((3, 3))])?;
+    let words = [1, 4_294_967_300, 1, 12_884_901_896];
+    same(used_words(&heap.space), words.as_slice())
 }
 
 #[test]
@@ -347,23 +378,22 @@ fn objects_that_came_back_are_settled(rt: HostRuntime) -> Result<(), Fail> {
     let alloc = rt.alloc();
     let mut heap = two_forwarded(alloc)?;
     let mut disk = SteadyDisk::new(alloc);
-    let mut space = StaleSpace::new(&mut disk, 9);
-    assert_eq!(rt; space.reserve_home(LEAF), Ok(1));
-    assert_eq!(rt; space.reserve_home(LEAF), Ok(3));
-    let settled = settle(&mut heap, &mut space)?;
-    assert_eq!(rt; settled, 2);
-    assert_eq!(rt; heap.forward.items.as_slice(), [0, 0, 0].as_slice());
-    assert_eq!(rt; heap.scions.get(1), Some((1, 1)));
-    assert_eq!(rt; heap.scions.get(2), Some((3, 3)));
-    assert_eq!(rt;
-        heap.space.words_at(1, 4),
-        [1, 4_294_967_300, 1, 12_884_901_896].as_slice()
-    );
-    assert_eq!(rt;
-        disk.image.as_slice(),
-        [0, 4_294_967_298, 1, 12_884_901_890, 2].as_slice()
-    );
-    Ok(())
+    settle_two(&mut heap, &mut disk)?;
+    same(disk.image.as_slice(), STUBS.as_slice())
+}
+
+/// Settles the heap of `two_forwarded` over a disk of which the second write fails, and then once more.
+fn settle_twice(heap: &mut Heap, disk: &mut MemDisk) -> Result<(), Fail>
+    requires { IsFormedTo heap.old 5 }
+{
+    let mut space = StaleSpace::new(disk, 9);
+    reserve_two(&mut space)?;
+    same(settle(heap, &mut space), Err(Failed))?;
+    let forward = [0, 0, 12_884_901_900];
+    same(heap.forward.items.as_slice(), forward.as_slice())?;
+    same(heap.scions.get(2), None)?;
+    same(settle(heap, &mut space), Ok(1))?;
+    same(heap.scions.get(2), Some((3, 3)))
 }
 
 #[test]
@@ -372,23 +402,9 @@ fn a_stub_that_cannot_be_written_leaves_its_object_forwarded(rt: HostRuntime) ->
     let mut heap = two_forwarded(alloc)?;
     let mut disk = MemDisk::new(alloc);
     disk.fail_writes.push(2)?;
-    let mut space = StaleSpace::new(&mut disk, 9);
-    assert_eq!(rt; space.reserve_home(LEAF), Ok(1));
-    assert_eq!(rt; space.reserve_home(LEAF), Ok(3));
-    assert_eq!(rt; settle(&mut heap, &mut space), Err(Failed));
-    assert_eq!(rt;
-        heap.forward.items.as_slice(),
-        [0, 0, 12_884_901_900].as_slice()
-    );
-    assert_eq!(rt; heap.scions.get(2), None);
-    assert_eq!(rt; settle(&mut heap, &mut space), Ok(1));
-    assert_eq!(rt; heap.scions.get(2), Some((3, 3)));
-    assert_eq!(rt;
-        disk.image.as_slice(),
-        [0, 4_294_967_298, 1, 12_884_901_890, 2].as_slice()
-    );
-    assert_eq!(rt; (disk.writes, disk.faults.count()), (3, 1));
-    Ok(())
+    settle_twice(&mut heap, &mut disk)?;
+    same(disk.image.as_slice(), STUBS.as_slice())?;
+    same((disk.writes, disk.faults.count()), (3, 1))
 }
 
 #[test]
@@ -397,7 +413,6 @@ fn a_heap_without_forwardings_is_settled(rt: HostRuntime) -> Result<(), Fail> {
     let mut heap = Heap::new(alloc, 4, 1, 2, true)?;
     let mut disk = SteadyDisk::new(alloc);
     let mut space = StaleSpace::new(&mut disk, 9);
-    assert_eq!(rt; settle(&mut heap, &mut space), Ok(0));
-    assert_eq!(rt; disk.writes, 0);
-    Ok(())
+    same(settle(&mut heap, &mut space), Ok(0))?;
+    same(disk.writes, 0)
 }

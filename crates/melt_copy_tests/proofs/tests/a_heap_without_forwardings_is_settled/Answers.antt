@@ -4,6 +4,6 @@ use Rattle.melt_copy_tests.proofs.Building.{new_formed_to}
 use Rattle.melt_copy_tests.proofs.tests.a_heap_without_forwardings_is_settled.Goals as goal
 
 pub settle-requires-after_bounds : goal.settle-requires-after_bounds
-settle-requires-after_bounds g c κs =
+settle-requires-after_bounds c κs =
     subst (IsFormedTo c.in_ok-heap.heap) (sym c.new-space.ensures.end)
     (new_formed_to 4 1 2 c.in_ok-heap.heap (lit≤ tt) c.in_ok-heap.ensures)

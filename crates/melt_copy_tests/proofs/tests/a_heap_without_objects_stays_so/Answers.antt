@@ -3,9 +3,9 @@ use Rattle.std.specs.Prelude.{true}
 use Rattle.melt_copy_tests.proofs.Building.{new_formed, new_settled, none_held}
 use Rattle.melt_copy_tests.proofs.tests.a_heap_without_objects_stays_so.Goals as goal
 
-pub collect_uncounted-requires-clause-formed : goal.collect_uncounted-requires-clause-formed
-collect_uncounted-requires-clause-formed g c =
+pub collect_to-requires-clause-formed : goal.collect_to-requires-clause-formed
+collect_to-requires-clause-formed c =
     new_formed 4 1 2 c.in_ok-heap.heap _ (lit≤ tt) c.in_ok-heap.ensures none_held
 
-pub collect_uncounted-requires-clause-settled : goal.collect_uncounted-requires-clause-settled
-collect_uncounted-requires-clause-settled g c = new_settled 4 1 2 true c.in_ok-heap.heap c.in_ok-heap.ensures
+pub collect_to-requires-clause-settled : goal.collect_to-requires-clause-settled
+collect_to-requires-clause-settled c = new_settled 4 1 2 true c.in_ok-heap.heap c.in_ok-heap.ensures
