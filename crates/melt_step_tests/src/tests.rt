@@ -1,2 +1,7 @@
+mod faults;
+mod given;
+mod growing;
+mod moved;
+mod order;
+mod room;
 mod safepoint;
-mod step;

@@ -1,5 +1,6 @@
-use melt_safepoint::*;
 use melt_model::ThreadEnd;
+use melt_safepoint::{Mode, halt_all, new_states};
+use melt_same::same;
 use melt_trace::parse;
 use std::test::Fail;
 
@@ -10,16 +11,16 @@ fn threads_of_a_trace_begin_and_are_halted(rt: HostRuntime) -> Result<(), Fail> 
         b"melt 1\nthreads 2\nglobals 0\nthread 0\nnew 0 0 0\ncollect\ndone\nthread 1\ndone\n".as_slice();
     let trace = parse(alloc, text)?;
     let (mut states, entries) = new_states(alloc, &trace)?;
-    assert_eq!(rt; entries, 2);
-    assert_eq!(rt; states.len(), 2);
+    same(entries, 2)?;
+    same(states.len(), 2)?;
     let begun = [Mode::Running, Mode::Ended(ThreadEnd::Done)];
     for (state, mode) in states.iter().zip(begun) {
-        assert_eq!(rt; state.mode, mode);
+        same(state.mode, mode)?;
     }
     halt_all(&mut states);
     let halted = [Mode::Ended(ThreadEnd::Halted), Mode::Ended(ThreadEnd::Done)];
     for (state, mode) in states.iter().zip(halted) {
-        assert_eq!(rt; state.mode, mode);
+        same(state.mode, mode)?;
     }
     Ok(())
 }

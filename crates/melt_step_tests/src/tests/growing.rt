@@ -1,6 +1,7 @@
 use super::given::{run_over, usual};
 use melt_io::SteadyDisk;
 use melt_model::{Reply, ThreadEnd};
+use melt_same::same;
 use std::alloc::Global;
 use std::test::Fail;
 
@@ -45,13 +46,12 @@ fn a_list_outgrows_the_heap(rt: HostRuntime) -> Result<(), Fail> {
     let mut disk = SteadyDisk::new(alloc);
     let (report, left) = run_over(alloc, text.as_bytes(), usual(40, 0), &mut disk)?;
     let replies = replies_of_list(alloc)?;
-    assert_eq!(rt; report.halt, None);
-    assert!(rt; left.is_some());
-    assert_eq!(rt; report.threads.items.len(), 1);
+    same(report.halt, None)?;
+    same(left.is_some(), true)?;
+    same(report.threads.items.len(), 1)?;
     for thread in &report.threads.items {
-        assert_eq!(rt; thread.end, ThreadEnd::Done);
-        assert_eq!(rt; thread.replies.items.as_slice(), replies.as_slice());
+        same(thread.end, ThreadEnd::Done)?;
+        same(thread.replies.items.as_slice(), replies.as_slice())?;
     }
-    assert!(rt; disk.image.len() > 3 * 40);
-    Ok(())
+    same(disk.image.len() > 3 * 40, true)
 }

@@ -1,19 +1,11 @@
-ghost use Rattle.std.specs.Prelude.{◌≡◌};
-ghost use Rattle.melt_core.specs.Views.{view};
-ghost use Rattle.melt_safepoint.specs.Rows.{row_of};
-ghost use Rattle.melt_safepoint.specs.Tables.{KnowsStop};
-ghost use Rattle.melt_step.specs.Going.{SomeGoes, core_view};
-
 use super::given::{Wanted, copied, emptied, expect, leaving, run_over, usual};
-use melt_step::epoch::take_turn;
-use melt_step::machine::Ordered;
-use melt_step::run::{new_run, run_schedule};
 use melt_disk::StaleSpace;
-use melt_io::{RecordReader, SteadyDisk};
+use melt_io::SteadyDisk;
 use melt_model::{Act, Entry, Phase, Reply, Slot, ThreadEnd, Value};
-use melt_safepoint::{Run, tells};
+use melt_same::same;
+use melt_step::run_schedule;
 use melt_trace::parse;
-use std::process::Abort;
+use std::alloc::{AllocError, Global};
 use std::test::Fail;
 
 /// Two threads and three lines of events. Behind the last line they take turns.
@@ -21,24 +13,7 @@ const ORDERED: &[u8] =
     b"melt 1\nthreads 2\nglobals 1\norder 0 6\norder 1 2\norder 0 3\nthread 0\nnew 0 1 0\ngstore 0 0\ndone\n\
       thread 1\ngload 0 0\ngload 1 0\nsame 0 1\ndone\n";
 
-/// The thread of each event, and how many replies it has behind it. A `new` of three words takes five events, a
-/// `gstore` and a `gload` two, and a `same` one.
-const EVENTS: [(u32, usize); 12] = [
-    (0, 0),
-    (0, 0),
-    (0, 0),
-    (0, 0),
-    (0, 1),
-    (0, 1),
-    (1, 0),
-    (1, 1),
-    (0, 2),
-    (1, 1),
-    (1, 2),
-    (1, 3),
-];
-
-/// The entries of these events. The load between the two events of the store reads what was there before.
+/// The entries of its events. The load between the two events of the store reads what was there before.
 const ENTRIES: [Entry; 4] = [
     Entry {
         thread: 0,
@@ -82,42 +57,52 @@ const LACKING: &[u8] =
     b"melt 1\nthreads 3\nglobals 1\norder 0 6\norder 1 3\norder 0 1\norder 2 1\norder 0 2\norder 2 2\n\
       thread 0\nnew 0 0 0\ngstore 0 0\ngload 1 0\ndone\nthread 1\nnew 0 0 13\ndone\nthread 2\ngstore 0 1\ndone\n";
 
-/// Takes the events of an epoch over a disk whose homes end before `end`, and compares the thread of each and how many
-/// replies it has then. No thread can go on behind the last.
-fn expect_events<A: Abort, R: RecordReader>(
-    rt: &A,
-    run: &mut Run<'_, Ordered<'_, 1>>,
-    end: u32,
-    reader: &mut R,
-    events: &[(u32, usize)],
-)
-    requires stands { SomeGoes end (R.image reader.old) (row_of core_view run.old) }
-    requires stop { KnowsStop (view run.old.machine.core) run.old.states.items }
-{
-    for &(thread, replies) in events {
-        let Some(next) = take_turn(run, end, reader) else {
-            panic!(rt; "no thread can go on");
-        };
-        assert_eq!(rt; next, thread);
-        assert_eq!(rt; run.states[next as usize].replies.len(), replies);
-    }
-    assert_eq!(rt; take_turn(run, end, reader), None);
+/// The same operations and a load of the global more, with other lines of events.
+fn with_lines(alloc: Global, lines: &str) -> Result<String, AllocError> {
+    format!(in alloc;
+        "melt 1\nthreads 2\nglobals 1\n{lines}thread 0\nnew 0 1 0\ngstore 0 0\ndone\n\
+                       thread 1\ngload 0 0\ngload 1 0\nsame 0 1\ngload 2 0\ndone\n"
+    )
 }
 
+/// The thread of each entry that a run of such a trace stores. Its threads come to their ends.
+fn threads_of_entries(alloc: Global, lines: &str) -> Result<Vec<u8>, Fail> {
+    let text = with_lines(alloc, lines)?;
+    let mut disk = SteadyDisk::new(alloc);
+    let (report, _) = run_over(alloc, text.as_bytes(), usual(16, 0), &mut disk)?;
+    for thread in &report.threads.items {
+        same((lines, thread.end), (lines, ThreadEnd::Done))?;
+    }
+    let mut threads = Vec::new(alloc);
+    for entry in &report.log.items {
+        threads.push(entry.thread)?;
+    }
+    Ok(threads)
+}
+
+/// A `new` of three words takes five events, a `gstore` and a `gload` two, and a `same` one. An entry comes with the last
+/// event of its operation.
 #[test]
 fn events_come_in_the_written_order(rt: HostRuntime) -> Result<(), Fail> {
-    let alloc = rt.alloc();
-    let trace = parse(alloc, ORDERED)?;
-    let config = usual(16, 0);
-    let mut disk = SteadyDisk::new(alloc);
-    let mut space = StaleSpace::new(&mut disk, config.disk);
-    let mut run = new_run::<1>(alloc, &trace, config, tells(&space))?;
-    let Ok(mut reader) = space.lend(alloc) else {
-        return Err("no reader".into());
-    };
-    expect_events(&rt, &mut run, space.end(), &mut reader, &EVENTS);
-    space.give_back(reader);
-    assert!(rt; run.has_ended());
+    let cases = [
+        ("order 0 4\norder 1 2\norder 0 3\n", [1, 0, 0, 1, 1]),
+        ("order 0 5\norder 1 2\norder 0 2\n", [0, 1, 0, 1, 1]),
+        ("order 0 6\norder 1 2\norder 0 3\n", [0, 1, 0, 1, 1]),
+        ("order 0 7\norder 1 2\n", [0, 0, 1, 1, 1]),
+        ("order 0 6\norder 1 1\norder 0 1\n", [0, 0, 1, 1, 1]),
+        ("order 0 6\norder 1 3\norder 0 1\n", [0, 1, 0, 1, 1]),
+        ("order 0 6\norder 1 4\norder 0 1\n", [0, 1, 1, 0, 1]),
+        ("order 0 6\norder 1 6\norder 0 1\n", [0, 1, 1, 0, 1]),
+        ("order 0 6\norder 1 7\norder 0 1\n", [0, 1, 1, 1, 0]),
+        // A line is dropped once its thread is at its end.
+        ("order 1 9\norder 0 1\n", [1, 1, 1, 0, 0]),
+        // The threads take turns.
+        ("", [1, 1, 0, 0, 1]),
+    ];
+    for (lines, want) in cases {
+        let threads = threads_of_entries(rt.alloc(), lines)?;
+        same((lines, threads.as_slice()), (lines, want.as_slice()))?;
+    }
     Ok(())
 }
 
@@ -126,8 +111,7 @@ fn entries_come_in_the_order_of_their_events(rt: HostRuntime) -> Result<(), Fail
     let alloc = rt.alloc();
     let mut disk = SteadyDisk::new(alloc);
     let (report, _) = run_over(alloc, ORDERED, usual(16, 0), &mut disk)?;
-    assert_eq!(rt; report.log.items.as_slice(), ENTRIES.as_slice());
-    Ok(())
+    same(report.log.items.as_slice(), ENTRIES.as_slice())
 }
 
 #[test]
@@ -140,12 +124,12 @@ fn entries_are_stored_only_where_they_are_asked_for(rt: HostRuntime) -> Result<(
     let mut other = SteadyDisk::new(alloc);
     let mut space = StaleSpace::new(&mut other, config.disk);
     let (report, _) = run_schedule(alloc, &trace, config, &mut space, false)?;
-    assert_eq!(rt; report.log.items.len(), 0);
+    same(report.log.items.len(), 0)?;
     for (thread, told) in report.threads.items.iter().zip(&stored.threads.items) {
-        assert_eq!(rt;
+        same(
             thread.replies.items.as_slice(),
-            told.replies.items.as_slice()
-        );
+            told.replies.items.as_slice(),
+        )?;
     }
     Ok(())
 }
@@ -162,7 +146,7 @@ fn a_load_answers_what_it_finds_at_its_end(rt: HostRuntime) -> Result<(), Fail> 
         journal: &[copied(Phase::Inactive, 0, 2), copied(Phase::Mark, 0, 2)],
         halt: None,
     };
-    expect(&rt, STORE_IN_LOAD, leaving(16, 1024), &wanted)
+    expect(rt.alloc(), STORE_IN_LOAD, leaving(16, 1024), &wanted)
 }
 
 #[test]
@@ -179,7 +163,7 @@ fn two_threads_get_one_object_back(rt: HostRuntime) -> Result<(), Fail> {
         ],
         halt: None,
     };
-    expect(&rt, RACING, leaving(16, 1024), &wanted)
+    expect(rt.alloc(), RACING, leaving(16, 1024), &wanted)
 }
 
 #[test]
@@ -194,5 +178,5 @@ fn a_thread_that_lacks_room_ends_and_the_others_go_on(rt: HostRuntime) -> Result
         journal: &[copied(Phase::Inactive, 2, 2)],
         halt: None,
     };
-    expect(&rt, LACKING, usual(16, 0), &wanted)
+    expect(rt.alloc(), LACKING, usual(16, 0), &wanted)
 }

@@ -8,12 +8,12 @@ use super::moved::{
 use melt_io::MemDisk;
 use melt_model::Reply::{Done, Num, Ref};
 use melt_model::{Halt, Journal, Phase, Reply, ThreadEnd};
+use melt_same::same;
 use std::alloc::Global;
-use std::process::Abort;
 use std::test::Fail;
 
 /// What a disk does wrong, once. All numbers count from 1.
-#[derive(Clone, Copy, Debug)]
+#[derive(Clone, Copy, Debug, PartialEq, Eq)]
 enum Flaw {
     Write(u64),
     Lend(u64),
@@ -141,31 +141,25 @@ fn flawed(alloc: Global, flaws: &[Flaw]) -> Result<MemDisk, Fail> {
 }
 
 /// Runs a story over a disk with flaws, and compares what is told. The report names each fault that the disk counted.
-fn expect_case<R: Abort + AllocGlobal>(
-    rt: &R,
-    story: &Story<'_>,
-    case: &Case<'_>,
-) -> Result<(), Fail>
+fn expect_case(alloc: Global, story: &Story<'_>, case: &Case<'_>) -> Result<(), Fail>
     requires forward_least { 1 ≤ story.now.forward }
     requires forward_most { story.now.forward ≤ 65536 }
 {
-    let alloc = rt.alloc();
     let mut disk = flawed(alloc, case.flaws)?;
     let (report, left) = run_over(alloc, story.text, leaving(story.forward, 1024), &mut disk)?;
-    assert!(rt; case.replies <= story.replies.len());
-    assert!(rt; case.collections <= story.journal.len());
+    let replies = story.replies.get(..case.replies);
+    let journal = story.journal.get(..case.collections);
     let wanted = Wanted {
-        threads: &[(&story.replies[..case.replies], case.end)],
-        journal: &story.journal[..case.collections],
+        threads: &[(replies.ok_or("too few replies")?, case.end)],
+        journal: journal.ok_or("too few collections")?,
         halt: case.halt,
     };
-    compare(rt, &report, &left, &wanted);
-    assert_eq!(rt;
-        disk.faults.count() == 1,
-        case.halt == Some(Halt::DiskFault)
-    );
-    assert_eq!(rt; disk.read_faults == 1, case.end == ThreadEnd::DiskFault);
-    Ok(())
+    let flaws = case.flaws;
+    compare(flaws, &report, &left, &wanted)?;
+    let halted = case.halt == Some(Halt::DiskFault);
+    let lost = case.end == ThreadEnd::DiskFault;
+    same((flaws, disk.faults.count() == 1), (flaws, halted))?;
+    same((flaws, disk.read_faults == 1), (flaws, lost))
 }
 
 #[test]
@@ -179,7 +173,7 @@ fn faults_of_a_disk_are_told(rt: HostRuntime) -> Result<(), Fail> {
         passes(&[Flaw::Read(1, 1)], 9, 3),
     ];
     for case in &cases {
-        expect_case(&rt, &RETURN, case)?;
+        expect_case(rt.alloc(), &RETURN, case)?;
     }
     Ok(())
 }
@@ -202,14 +196,14 @@ fn words_that_are_no_record_are_told(rt: HostRuntime) -> Result<(), Fail> {
         ),
     ];
     for case in &cases {
-        expect_case(&rt, &RETURN, case)?;
+        expect_case(rt.alloc(), &RETURN, case)?;
     }
     let of_slots = [
         damages(&[Flaw::Lie(4, 3, 4)], 6, 2, 4),
         damages(&[Flaw::Lie(4, 3, 19)], 6, 2, 19),
     ];
     for case in &of_slots {
-        expect_case(&rt, &SLOT, case)?;
+        expect_case(rt.alloc(), &SLOT, case)?;
     }
     Ok(())
 }
@@ -220,7 +214,7 @@ fn a_number_that_is_a_lie_is_not_found_out(rt: HostRuntime) -> Result<(), Fail> 
     let mut replies = MOVE_AND_RETURN_REPLIES;
     replies[8] = Num(8);
     story.replies = &replies;
-    expect_case(&rt, &story, &passes(&[Flaw::Lie(4, 3, 8)], 9, 3))
+    expect_case(rt.alloc(), &story, &passes(&[Flaw::Lie(4, 3, 8)], 9, 3))
 }
 
 #[test]
@@ -232,9 +226,9 @@ fn each_write_that_fails_halts_the_run(rt: HostRuntime) -> Result<(), Fail> {
         passes(&[Flaw::Write(4)], 18, 5),
     ];
     for case in &cases {
-        expect_case(&rt, &AGAIN, case)?;
+        expect_case(rt.alloc(), &AGAIN, case)?;
     }
-    expect_case(&rt, &TWO, &halts(&[Flaw::Write(3)], 9, 3))
+    expect_case(rt.alloc(), &TWO, &halts(&[Flaw::Write(3)], 9, 3))
 }
 
 /// Both objects have left when thread 1 loads the first, of which its read fails. Thread 0 loads that one too.
@@ -246,7 +240,8 @@ const TWO_LOAD: &[u8] =
 #[test]
 fn a_read_fails_for_one_thread_alone(rt: HostRuntime) -> Result<(), Fail> {
     let alloc = rt.alloc();
-    let mut disk = flawed(alloc, &[Flaw::Read(4, 3)])?;
+    let flaws = [Flaw::Read(4, 3)].as_slice();
+    let mut disk = flawed(alloc, flaws)?;
     let (report, left) = run_over(alloc, TWO_LOAD, leaving(16, 1024), &mut disk)?;
     let mut replies = [Done; 9];
     replies[8] = Ref;
@@ -259,7 +254,6 @@ fn a_read_fails_for_one_thread_alone(rt: HostRuntime) -> Result<(), Fail> {
         ],
         halt: None,
     };
-    compare(&rt, &report, &left, &wanted);
-    assert_eq!(rt; disk.read_faults, 1);
-    Ok(())
+    compare(flaws, &report, &left, &wanted)?;
+    same(disk.read_faults, 1)
 }

@@ -56,7 +56,7 @@ fn what_was_stored_is_loaded(rt: HostRuntime) -> Result<(), Fail> {
         journal: &[],
         halt: None,
     };
-    expect(&rt, ROUND_TRIPS, usual(16, 0), &wanted)
+    expect(rt.alloc(), ROUND_TRIPS, usual(16, 0), &wanted)
 }
 
 #[test]
@@ -66,14 +66,14 @@ fn the_largest_object_fits_in_126_words(rt: HostRuntime) -> Result<(), Fail> {
         journal: &[],
         halt: None,
     };
-    expect(&rt, LARGEST, usual(126, 0), &wanted)?;
+    expect(rt.alloc(), LARGEST, usual(126, 0), &wanted)?;
     let end = ThreadEnd::OutOfHeap { held: 0, need: 126 };
     let refused = Wanted {
         threads: &[(&[], end)],
         journal: &[copied(Phase::Inactive, 0, 0)],
         halt: None,
     };
-    expect(&rt, LARGEST, usual(125, 0), &refused)
+    expect(rt.alloc(), LARGEST, usual(125, 0), &refused)
 }
 
 #[test]
@@ -84,7 +84,7 @@ fn what_a_register_holds_leaves_no_room(rt: HostRuntime) -> Result<(), Fail> {
         journal: &[copied(Phase::Inactive, 126, 126)],
         halt: None,
     };
-    expect(&rt, LARGEST_AND_ONE, usual(126, 0), &wanted)
+    expect(rt.alloc(), LARGEST_AND_ONE, usual(126, 0), &wanted)
 }
 
 #[test]
@@ -94,7 +94,7 @@ fn an_object_that_nothing_reaches_gives_its_words_back(rt: HostRuntime) -> Resul
         journal: &[copied(Phase::Inactive, 126, 126)],
         halt: None,
     };
-    expect(&rt, GARBAGE, usual(252, 0), &wanted)
+    expect(rt.alloc(), GARBAGE, usual(252, 0), &wanted)
 }
 
 #[test]
@@ -118,7 +118,7 @@ fn an_object_that_left_finds_no_room_to_return(rt: HostRuntime) -> Result<(), Fa
         ],
         halt: None,
     };
-    expect(&rt, NO_RETURN, leaving(16, 1024), &wanted)
+    expect(rt.alloc(), NO_RETURN, leaving(16, 1024), &wanted)
 }
 
 #[test]
@@ -128,7 +128,7 @@ fn silent_collections_change_no_reply(rt: HostRuntime) -> Result<(), Fail> {
         journal: &[copied(Phase::Inactive, 3, 3); 2],
         halt: None,
     };
-    expect(&rt, MADE_AND_COMPARED, usual(16, 1), &wanted)
+    expect(rt.alloc(), MADE_AND_COMPARED, usual(16, 1), &wanted)
 }
 
 #[test]
@@ -142,5 +142,5 @@ fn words_that_nobody_holds_are_moved_to_make_room(rt: HostRuntime) -> Result<(),
         ],
         halt: None,
     };
-    expect(&rt, FORCED, usual(16, 0), &wanted)
+    expect(rt.alloc(), FORCED, usual(16, 0), &wanted)
 }

@@ -2,6 +2,7 @@ use super::given::{Wanted, compare, copied, emptied, expect, leaving, run_over};
 use melt_io::SteadyDisk;
 use melt_model::Reply::{Done, No, Num, Ref, Yes};
 use melt_model::{Halt, Journal, Phase, Reply, ThreadEnd};
+use melt_same::same;
 use std::test::Fail;
 
 /// An object leaves at the third collection, and comes back with its number.
@@ -136,32 +137,32 @@ const EIGHT_WORDS: &[u8] =
 fn an_object_leaves_and_comes_back(rt: HostRuntime) -> Result<(), Fail> {
     let alloc = rt.alloc();
     let mut disk = SteadyDisk::new(alloc);
-    let (report, left) = run_over(alloc, MOVE_AND_RETURN, leaving(16, 1024), &mut disk)?;
+    let config = leaving(16, 1024);
+    let (report, left) = run_over(alloc, MOVE_AND_RETURN, config, &mut disk)?;
     let wanted = Wanted {
         threads: &[(&MOVE_AND_RETURN_REPLIES, ThreadEnd::Done)],
         journal: &JOURNAL_OF_THREE[..3],
         halt: None,
     };
-    compare(&rt, &report, &left, &wanted);
-    assert_eq!(rt; disk.image.as_slice(), [0, 4_295_032_833, 0, 7].as_slice());
-    assert_eq!(rt; disk.writes, 1);
-    Ok(())
+    compare(config, &report, &left, &wanted)?;
+    same(disk.image.as_slice(), [0, 4_295_032_833, 0, 7].as_slice())?;
+    same(disk.writes, 1)
 }
 
 #[test]
 fn an_object_that_leaves_again_has_the_same_home(rt: HostRuntime) -> Result<(), Fail> {
     let alloc = rt.alloc();
     let mut disk = SteadyDisk::new(alloc);
-    let (report, left) = run_over(alloc, SAME_HOME, leaving(16, 1024), &mut disk)?;
+    let config = leaving(16, 1024);
+    let (report, left) = run_over(alloc, SAME_HOME, config, &mut disk)?;
     let wanted = Wanted {
         threads: &[(&SAME_HOME_REPLIES, ThreadEnd::Done)],
         journal: &JOURNAL_OF_THREE,
         halt: None,
     };
-    compare(&rt, &report, &left, &wanted);
-    assert_eq!(rt; disk.image.as_slice(), [0, 4_295_032_833, 0, 10].as_slice());
-    assert_eq!(rt; disk.writes, 3);
-    Ok(())
+    compare(config, &report, &left, &wanted)?;
+    same(disk.image.as_slice(), [0, 4_295_032_833, 0, 10].as_slice())?;
+    same(disk.writes, 3)
 }
 
 #[test]
@@ -183,7 +184,7 @@ fn a_home_that_became_a_stub_names_the_same_object(rt: HostRuntime) -> Result<()
         journal: &[first, second, third, settling],
         halt: None,
     };
-    expect(&rt, STUB, leaving(16, 1024), &wanted)
+    expect(rt.alloc(), STUB, leaving(16, 1024), &wanted)
 }
 
 #[test]
@@ -200,7 +201,7 @@ fn cycles_come_back_as_they_were(rt: HostRuntime) -> Result<(), Fail> {
         ],
         halt: None,
     };
-    expect(&rt, CYCLES, leaving(16, 1024), &wanted)
+    expect(rt.alloc(), CYCLES, leaving(16, 1024), &wanted)
 }
 
 #[test]
@@ -210,9 +211,9 @@ fn a_collection_makes_room_for_forwarding_words(rt: HostRuntime) -> Result<(), F
         journal: &TWO_RETURN_JOURNAL,
         halt: None,
     };
-    expect(&rt, TWO_RETURN, leaving(1, 1024), &wanted)?;
+    expect(rt.alloc(), TWO_RETURN, leaving(1, 1024), &wanted)?;
     wanted.journal = &TWO_RETURN_JOURNAL[..3];
-    expect(&rt, TWO_RETURN, leaving(2, 1024), &wanted)
+    expect(rt.alloc(), TWO_RETURN, leaving(2, 1024), &wanted)
 }
 
 #[test]
@@ -227,7 +228,7 @@ fn a_disk_without_room_halts_the_run(rt: HostRuntime) -> Result<(), Fail> {
         journal: &[copied(Phase::Inactive, 0, 8), copied(Phase::Mark, 0, 8)],
         halt: Some(full),
     };
-    expect(&rt, EIGHT_WORDS, leaving(16, 8), &wanted)
+    expect(rt.alloc(), EIGHT_WORDS, leaving(16, 8), &wanted)
 }
 
 #[test]
@@ -241,5 +242,5 @@ fn an_object_fills_the_disk(rt: HostRuntime) -> Result<(), Fail> {
         ],
         halt: None,
     };
-    expect(&rt, EIGHT_WORDS, leaving(16, 9), &wanted)
+    expect(rt.alloc(), EIGHT_WORDS, leaving(16, 9), &wanted)
 }

@@ -1,14 +1,15 @@
 ghost use Rattle.std.specs.Prelude.{◌≤◌};
 ghost use Rattle.melt_model.specs.Config.{InRanges};
 
-use melt_step::run::run_schedule;
 use melt_disk::StaleSpace;
 use melt_io::{MemDisk, StaleDisk, SteadyDisk};
 use melt_model::{Config, Halt, Journal, Phase, Reply, Report, ThreadEnd};
+use melt_same::same;
 use melt_scion::Heap;
+use melt_step::run_schedule;
 use melt_trace::parse;
 use std::alloc::Global;
-use std::process::Abort;
+use std::fmt::Debug;
 use std::test::Fail;
 
 /// A collection of a run over a disk without homes. Of the words that are in use behind it so many are those of objects
@@ -94,30 +95,41 @@ pub(super) fn run_over<D: StaleDisk>(
     Ok(run_schedule(alloc, &trace, config, &mut space, true)?)
 }
 
-/// Compares what a run answered. The heap is lost where the disk failed, and nowhere else.
-pub(super) fn compare<R: Abort>(rt: &R, report: &Report, left: &Option<Heap>, wanted: &Wanted<'_>) {
-    assert_eq!(rt; report.threads.items.len(), wanted.threads.len());
+/// Compares what a run answered, and shows it beside what tells the run from others of its test. The heap is lost where the
+/// disk failed, and nowhere else.
+pub(super) fn compare<W: Copy + PartialEq + Debug + Drop>(
+    run: W,
+    report: &Report,
+    left: &Option<Heap>,
+    wanted: &Wanted<'_>,
+) -> Result<(), Fail> {
+    same(
+        (run, report.threads.items.len()),
+        (run, wanted.threads.len()),
+    )?;
     for (thread, (replies, end)) in report.threads.items.iter().zip(wanted.threads) {
-        assert_eq!(rt; thread.replies.items.as_slice(), *replies);
-        assert_eq!(rt; thread.end, *end);
+        same((run, thread.replies.items.as_slice()), (run, *replies))?;
+        same((run, thread.end), (run, *end))?;
     }
-    assert_eq!(rt; report.journal.items.as_slice(), wanted.journal);
-    assert_eq!(rt; report.halt, wanted.halt);
-    assert_eq!(rt; left.is_none(), wanted.halt == Some(Halt::DiskFault));
+    same(
+        (run, report.journal.items.as_slice()),
+        (run, wanted.journal),
+    )?;
+    same((run, report.halt), (run, wanted.halt))?;
+    let lost = wanted.halt == Some(Halt::DiskFault);
+    same((run, left.is_none()), (run, lost))
 }
 
 /// Runs a trace over a disk that does not fail, and compares what it answers.
-pub(super) fn expect<R: Abort + AllocGlobal>(
-    rt: &R,
+pub(super) fn expect(
+    alloc: Global,
     text: &[u8],
     config: Config,
     wanted: &Wanted<'_>,
 ) -> Result<(), Fail>
     requires ranges { InRanges config }
 {
-    let alloc = rt.alloc();
     let mut disk = SteadyDisk::new(alloc);
     let (report, left) = run_over(alloc, text, config, &mut disk)?;
-    compare(rt, &report, &left, wanted);
-    Ok(())
+    compare(config, &report, &left, wanted)
 }
