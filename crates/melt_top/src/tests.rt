@@ -12,8 +12,8 @@ use melt_model::{
     Config, Entries, Ghost, Halt, Journals, Replies, Reply, Report, ThreadEnd, ThreadReport,
     ThreadReports,
 };
+use melt_same::same;
 use std::alloc::Global;
-use std::process::Abort;
 use std::test::Fail;
 use std::thread::Threads;
 
@@ -101,14 +101,13 @@ fn step_writes_each_reply(rt: HostRuntime) -> Result<(), Fail> {
         let mut source = SteadySource::new(trace.to_vec(rt.alloc())?);
         let mut sink = SteadySink::new(rt.alloc());
         let status = call(&rt, "step", &mut source, &mut sink)?;
-        assert_eq!(rt; sink.bytes.as_slice(), text);
-        assert_eq!(rt; status, Status::Done);
+        same((status, sink.bytes.as_slice()), (Status::Done, text))?;
     }
     Ok(())
 }
 
 /// The bytes that a command writes, of a trace that is run to its end.
-fn written<R: Threads + Sync + AllocGlobal + Abort>(
+fn written<R: Threads + Sync + AllocGlobal>(
     rt: &R,
     line: &str,
     trace: &[u8],
@@ -116,7 +115,7 @@ fn written<R: Threads + Sync + AllocGlobal + Abort>(
     let mut source = MemSource::new(trace.to_vec(rt.alloc())?);
     let mut sink = MemSink::new(rt.alloc());
     let status = call(rt, line, &mut source, &mut sink)?;
-    assert_eq!(rt; status, Status::Done);
+    same((line, status), (line, Status::Done))?;
     Ok(sink.bytes)
 }
 
@@ -141,8 +140,8 @@ fn each_number_of_a_run_is_its_own_option(rt: HostRuntime) -> Result<(), Fail> {
         move_: 80,
         every: 0,
     };
-    assert_eq!(rt; configured(&rt, "step")?, Some(plain));
-    assert_eq!(rt; configured(&rt, "run")?, Some(plain));
+    same(configured(&rt, "step")?, Some(plain))?;
+    same(configured(&rt, "run")?, Some(plain))?;
     let step = "step --disk=12 --every 3 --forward 2 --heap=100 --mark 0 --move=1";
     let run = "run --mark 0 --heap=100 --every=3 --disk 12 --move=1 --forward 2";
     let given = Config {
@@ -153,9 +152,8 @@ fn each_number_of_a_run_is_its_own_option(rt: HostRuntime) -> Result<(), Fail> {
         move_: 1,
         every: 3,
     };
-    assert_eq!(rt; configured(&rt, step)?, Some(given));
-    assert_eq!(rt; configured(&rt, run)?, Some(given));
-    Ok(())
+    same(configured(&rt, step)?, Some(given))?;
+    same(configured(&rt, run)?, Some(given))
 }
 
 #[test]
@@ -165,7 +163,8 @@ fn a_run_has_the_least_and_the_largest_disk(rt: HostRuntime) -> Result<(), Fail>
         "step --forward 65536 --disk=268435456",
     ] {
         let text = b"thread 0\nok\nyes\nend done\n".as_slice();
-        assert_eq!(rt; written(&rt, line, TRACE)?.as_slice(), text);
+        let got = written(&rt, line, TRACE)?;
+        same((line, got.as_slice()), (line, text))?;
     }
     Ok(())
 }
@@ -177,8 +176,7 @@ fn sums_stand_in_the_place_of_replies(rt: HostRuntime) -> Result<(), Fail> {
         get 0 0\nget 0 1\nget 0 0\nget 1 0\ndone\nthread 1\ndone\n";
     let text =
         b"thread 0\nreplies 7\nsum 1\nend done\nthread 1\nreplies 0\nsum 0\nend done\n".as_slice();
-    assert_eq!(rt; written(&rt, "step --quiet", trace)?.as_slice(), text);
-    Ok(())
+    same(written(&rt, "step --quiet", trace)?.as_slice(), text)
 }
 
 #[test]
@@ -189,8 +187,7 @@ fn a_table_follows_the_replies(rt: HostRuntime) -> Result<(), Fail> {
         collect\ncollect\ngload 0 0\nget 0 0\ncollect\ndone\n";
     let text = b"thread 0\nok\nok\nok\nok\nok\nok\nref\n7\nok\nend done\n\
         number,phase,held,live,bodies,stubs,end\n1,inactive,0,3,0,0,1\n2,mark,0,3,0,0,1\n3,mark,3,3,0,0,1\n";
-    assert_eq!(rt; written(&rt, line, trace)?.as_slice(), text.as_slice());
-    Ok(())
+    same(written(&rt, line, trace)?.as_slice(), text.as_slice())
 }
 
 #[test]
@@ -198,8 +195,7 @@ fn silent_collections_stand_in_the_table(rt: HostRuntime) -> Result<(), Fail> {
     let line = "step --heap 16 --every 1 --table";
     let text = b"thread 0\nok\nyes\nend done\n\
         number,phase,held,live,bodies,stubs,end\n1,inactive,3,3,0,0,1\n2,inactive,3,3,0,0,1\n";
-    assert_eq!(rt; written(&rt, line, TRACE)?.as_slice(), text.as_slice());
-    Ok(())
+    same(written(&rt, line, TRACE)?.as_slice(), text.as_slice())
 }
 
 #[test]
@@ -230,7 +226,7 @@ fn a_log_has_each_entry(rt: HostRuntime) -> Result<(), Fail> {
         ),
     ];
     for (trace, text) in cases {
-        assert_eq!(rt; written(&rt, "step --log", trace)?.as_slice(), text);
+        same(written(&rt, "step --log", trace)?.as_slice(), text)?;
     }
     Ok(())
 }
@@ -240,8 +236,7 @@ fn all_three_texts_stand_in_their_order(rt: HostRuntime) -> Result<(), Fail> {
     let line = "step --log --quiet --every=2 --table";
     let text = b"thread 0\nreplies 2\nsum 0\nend done\n\
         number,phase,held,live,bodies,stubs,end\n1,inactive,3,3,0,0,1\nlog 1\nmake 0 0 1 0\n";
-    assert_eq!(rt; written(&rt, line, TRACE)?.as_slice(), text.as_slice());
-    Ok(())
+    same(written(&rt, line, TRACE)?.as_slice(), text.as_slice())
 }
 
 #[test]
@@ -254,8 +249,7 @@ fn a_long_list_is_summed(rt: HostRuntime) -> Result<(), Fail> {
     let text = b"thread 0\nreplies 70018\nsum 50074964\nend done\n\
         thread 1\nreplies 70018\nsum 50074964\nend done\n";
     let line = "step --heap 131072 --quiet";
-    assert_eq!(rt; written(&rt, line, &trace)?.as_slice(), text.as_slice());
-    Ok(())
+    same(written(&rt, line, &trace)?.as_slice(), text.as_slice())
 }
 
 #[test]
@@ -270,7 +264,7 @@ fn the_heap_is_not_seen_in_sums(rt: HostRuntime) -> Result<(), Fail> {
         let trace = written(&rt, made, b"")?;
         let large = written(&rt, "step --quiet", &trace)?;
         let small = written(&rt, "step --quiet --every 50 --heap=8192", &trace)?;
-        assert_eq!(rt; large.as_slice(), small.as_slice());
+        same((made, large.as_slice()), (made, small.as_slice()))?;
     }
     Ok(())
 }
@@ -281,12 +275,10 @@ fn a_sink_that_fails_has_nothing(rt: HostRuntime) -> Result<(), Fail> {
         let mut source = MemSource::new(TRACE.to_vec(rt.alloc())?);
         let mut sink = MemSink::new(rt.alloc());
         sink.fail.push(1)?;
-        assert_eq!(rt;
-            call(&rt, word, &mut source, &mut sink)?,
-            Status::WriteFault
-        );
-        assert_eq!(rt; sink.bytes.len(), 0);
-        assert_eq!(rt; sink.faults.count(), 1);
+        let status = call(&rt, word, &mut source, &mut sink)?;
+        same((word, status), (word, Status::WriteFault))?;
+        same((word, sink.bytes.len()), (word, 0))?;
+        same((word, sink.faults.count()), (word, 1))?;
     }
     Ok(())
 }
@@ -296,13 +288,10 @@ fn a_source_that_fails_is_told(rt: HostRuntime) -> Result<(), Fail> {
     let mut source = MemSource::new(TRACE.to_vec(rt.alloc())?);
     source.fail.push(1)?;
     let mut sink = MemSink::new(rt.alloc());
-    assert_eq!(rt;
-        call(&rt, "step", &mut source, &mut sink)?,
-        Status::ReadFault
-    );
-    assert_eq!(rt; sink.bytes.as_slice(), b"error read\n".as_slice());
-    assert_eq!(rt; source.faults.count(), 1);
-    Ok(())
+    let status = call(&rt, "step", &mut source, &mut sink)?;
+    same(status, Status::ReadFault)?;
+    same(sink.bytes.as_slice(), b"error read\n".as_slice())?;
+    same(source.faults.count(), 1)
 }
 
 #[test]
@@ -339,9 +328,11 @@ fn words_that_mean_nothing_read_nothing(rt: HostRuntime) -> Result<(), Fail> {
     for line in lines {
         let mut source = MemSource::new(TRACE.to_vec(rt.alloc())?);
         let mut sink = MemSink::new(rt.alloc());
-        assert_eq!(rt; call(&rt, line, &mut source, &mut sink)?, Status::Usage);
-        assert_eq!(rt; sink.bytes.as_slice(), b"error usage\n".as_slice());
-        assert_eq!(rt; (source.pos, source.calls), (0, 0));
+        let status = call(&rt, line, &mut source, &mut sink)?;
+        same((line, status), (line, Status::Usage))?;
+        let text = b"error usage\n".as_slice();
+        same((line, sink.bytes.as_slice()), (line, text))?;
+        same((line, source.pos, source.calls), (line, 0, 0))?;
     }
     Ok(())
 }
@@ -351,13 +342,12 @@ fn gen_writes_a_trace_and_reads_nothing(rt: HostRuntime) -> Result<(), Fail> {
     let line = "gen --threads 1 --kind tree --seed=7 --size 2";
     let mut source = MemSource::new(TRACE.to_vec(rt.alloc())?);
     let mut sink = MemSink::new(rt.alloc());
-    assert_eq!(rt; call(&rt, line, &mut source, &mut sink)?, Status::Done);
+    same(call(&rt, line, &mut source, &mut sink)?, Status::Done)?;
     let text =
         b"melt 1\nthreads 1\nglobals 1\nthread 0\nnew 0 2 1\nput 0 0 7191089600892374487\ngstore 0 0\n\
         gload 0 0\nnew 1 2 1\nput 1 0 309689372594955804\nstore 0 0 1\ndrop 0\ndrop 1\ndone\n";
-    assert_eq!(rt; sink.bytes.as_slice(), text.as_slice());
-    assert_eq!(rt; (source.pos, source.calls), (0, 0));
-    Ok(())
+    same(sink.bytes.as_slice(), text.as_slice())?;
+    same((source.pos, source.calls), (0, 0))
 }
 
 #[test]
@@ -365,14 +355,13 @@ fn a_trace_that_was_made_runs(rt: HostRuntime) -> Result<(), Fail> {
     let line = "gen --kind list --seed 1 --size 10 --threads 1";
     let mut nothing = MemSource::new(Vec::new(rt.alloc()));
     let mut trace = MemSink::new(rt.alloc());
-    assert_eq!(rt; call(&rt, line, &mut nothing, &mut trace)?, Status::Done);
+    same(call(&rt, line, &mut nothing, &mut trace)?, Status::Done)?;
     let mut source = MemSource::new(trace.bytes);
     let mut sink = MemSink::new(rt.alloc());
     let status = call(&rt, "step --heap=64", &mut source, &mut sink)?;
-    assert_eq!(rt; status, Status::Done);
+    same(status, Status::Done)?;
     let end = b"ref\n9\nref\n8\nref\n7\nref\n6\nref\n5\nref\n4\nref\n3\nref\n2\nok\nok\nend done\n";
-    assert!(rt; sink.bytes.as_slice().ends_with(end));
-    Ok(())
+    same(sink.bytes.as_slice().ends_with(end), true)
 }
 
 #[test]
@@ -394,12 +383,10 @@ fn a_report_has_each_reply_end_and_halt(rt: HostRuntime) -> Result<(), Fail> {
         limit: 12,
     };
     let whole = report(rt.alloc(), &replies, &[end], Some(full))?;
-    assert_eq!(rt;
-        report_text(rt.alloc(), &whole, REPLIES)?.as_slice(),
-        b"thread 0\nok\nnull\nref\n18446744073709551615\nyes\nno\nnil\nrange\nend done\n\
-        halt disk-full 7 0 12\n"
-            .as_slice()
-    );
+    let text = report_text(rt.alloc(), &whole, REPLIES)?;
+    let want = b"thread 0\nok\nnull\nref\n18446744073709551615\nyes\nno\nnil\nrange\nend done\n\
+        halt disk-full 7 0 12\n";
+    same(text.as_slice(), want.as_slice())?;
     let ends = [
         ThreadEnd::OutOfHeap { held: 3, need: 64 },
         ThreadEnd::DiskFault,
@@ -411,13 +398,11 @@ fn a_report_has_each_reply_end_and_halt(rt: HostRuntime) -> Result<(), Fail> {
         ThreadEnd::Halted,
     ];
     let broken = report(rt.alloc(), &[], &ends, Some(Halt::DiskFault))?;
-    assert_eq!(rt;
-        report_text(rt.alloc(), &broken, REPLIES)?.as_slice(),
+    let text = report_text(rt.alloc(), &broken, REPLIES)?;
+    let want =
         b"thread 0\nend out-of-heap 3 64\nthread 1\nend disk-fault\nthread 2\nend damaged 2 0 9\n\
-        thread 3\nend halted\nhalt disk-fault\n"
-            .as_slice()
-    );
-    Ok(())
+        thread 3\nend halted\nhalt disk-fault\n";
+    same(text.as_slice(), want.as_slice())
 }
 
 #[test]
@@ -443,8 +428,8 @@ fn a_report_has_the_status_of_its_worst_end(rt: HostRuntime) -> Result<(), Fail>
     ];
     for (ends, halt, status, code) in cases {
         let report = report(rt.alloc(), &[], &ends, halt)?;
-        assert_eq!(rt; status_for(&report), status);
-        assert_eq!(rt; status.code(), code);
+        same((ends, halt, status_for(&report)), (ends, halt, status))?;
+        same((status, status.code()), (status, code))?;
     }
     Ok(())
 }

@@ -1,7 +1,7 @@
 use super::given::{AGAIN, Flaw, RETURN, STUB, Story, TWO, flawed, run_over};
 use crate::status::Status;
 use melt_io::MemDisk;
-use std::process::Abort;
+use melt_same::same;
 use std::test::Fail;
 use std::thread::Threads;
 
@@ -47,28 +47,30 @@ fn count_faults(disk: &MemDisk) -> u64 {
 
 /// Runs a story over a disk of which one call fails, and answers whether it came to that call. It writes what it writes
 /// over a disk without flaws, or, where the call failed, a front of that and the last lines.
-fn fails<R: Threads + Sync + AllocGlobal + Abort>(
+fn fails<R: Threads + Sync + AllocGlobal>(
     rt: &R,
     story: &Story<'_>,
     calls: Calls,
     number: u64,
 ) -> Result<bool, Fail> {
-    let mut disk = flawed(rt.alloc(), &[calls.nth(number)])?;
+    let flaw = calls.nth(number);
+    let mut disk = flawed(rt.alloc(), &[flaw])?;
     let (text, status) = run_over(rt, story, &mut disk)?;
     if count_faults(&disk) == 0 {
-        assert_eq!(rt; text.as_slice(), story.text);
-        assert_eq!(rt; status, Status::Done);
+        same((flaw, text.as_slice()), (flaw, story.text))?;
+        same((flaw, status), (flaw, Status::Done))?;
         return Ok(false);
     }
-    assert_eq!(rt; count_faults(&disk), 1);
+    same((flaw, count_faults(&disk)), (flaw, 1))?;
     let front = text.as_slice().strip_suffix(calls.last_lines());
-    assert!(rt; front.is_some_and(|front| story.text.starts_with(front)));
-    assert_eq!(rt; status, Status::DiskFault);
+    let is_front = front.is_some_and(|front| story.text.starts_with(front));
+    same((flaw, is_front), (flaw, true))?;
+    same((flaw, status), (flaw, Status::DiskFault))?;
     Ok(true)
 }
 
 /// Lets each call of a kind fail in turn, and answers how many there are.
-fn fail_each<R: Threads + Sync + AllocGlobal + Abort>(
+fn fail_each<R: Threads + Sync + AllocGlobal>(
     rt: &R,
     story: &Story<'_>,
     calls: Calls,
@@ -82,7 +84,7 @@ fn fail_each<R: Threads + Sync + AllocGlobal + Abort>(
 }
 
 /// Lets each read of each reader fail in turn, and answers how many there are.
-fn fail_each_read<R: Threads + Sync + AllocGlobal + Abort>(
+fn fail_each_read<R: Threads + Sync + AllocGlobal>(
     rt: &R,
     story: &Story<'_>,
     lends: u64,
@@ -96,20 +98,19 @@ fn fail_each_read<R: Threads + Sync + AllocGlobal + Abort>(
 }
 
 /// Lets each call of the disk fail in turn. There are so many writes, lends and reads.
-fn expect_each<R: Threads + Sync + AllocGlobal + Abort>(
+fn expect_each<R: Threads + Sync + AllocGlobal>(
     rt: &R,
     story: &Story<'_>,
     wanted: (u64, u64, u64),
 ) -> Result<(), Fail> {
     let mut disk = flawed(rt.alloc(), &[])?;
     let (_text, status) = run_over(rt, story, &mut disk)?;
-    assert_eq!(rt; status, Status::Done);
+    same((wanted, status), (wanted, Status::Done))?;
     let writes = fail_each(rt, story, Calls::Writes)?;
     let lends = fail_each(rt, story, Calls::Lends)?;
     let reads = fail_each_read(rt, story, lends)?;
-    assert_eq!(rt; (disk.writes, disk.lends), (writes, lends));
-    assert_eq!(rt; (writes, lends, reads), wanted);
-    Ok(())
+    same((disk.writes, disk.lends), (writes, lends))?;
+    same((writes, lends, reads), wanted)
 }
 
 #[test]

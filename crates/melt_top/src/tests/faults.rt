@@ -1,7 +1,7 @@
 use super::given::{AGAIN, Flaw, LEAVING, RETURN, Story, TWO, flawed, run_over};
 use crate::status::Status;
+use melt_same::same;
 use std::alloc::Global;
-use std::process::Abort;
 use std::test::Fail;
 use std::thread::Threads;
 
@@ -86,7 +86,7 @@ fn cut_text(alloc: Global, story: &Story<'_>, replies: u8, last: &[u8]) -> Resul
     Ok(text)
 }
 
-fn expect_endings<R: Threads + Sync + AllocGlobal + Abort>(
+fn expect_endings<R: Threads + Sync + AllocGlobal>(
     rt: &R,
     story: &Story<'_>,
     endings: &[Ending<'_>],
@@ -95,8 +95,9 @@ fn expect_endings<R: Threads + Sync + AllocGlobal + Abort>(
         let mut disk = flawed(rt.alloc(), ending.flaws)?;
         let (text, status) = run_over(rt, story, &mut disk)?;
         let wanted = cut_text(rt.alloc(), story, ending.replies, ending.last)?;
-        assert_eq!(rt; text.as_slice(), wanted.as_slice(), "{:?}", ending.flaws);
-        assert_eq!(rt; status, ending.status, "{:?}", ending.flaws);
+        let flaws = ending.flaws;
+        same((flaws, text.as_slice()), (flaws, wanted.as_slice()))?;
+        same((flaws, status), (flaws, ending.status))?;
     }
     Ok(())
 }

@@ -7,7 +7,7 @@ use std::test::Fail;
 use std::thread::Threads;
 
 /// What a disk in memory does wrong. All numbers count from 1.
-#[derive(Clone, Copy, Debug)]
+#[derive(Clone, Copy, Debug, PartialEq, Eq)]
 pub(super) enum Flaw {
     Write(u64),
     Lend(u64),

@@ -1,4 +1,5 @@
 use super::{TRACE, written};
+use melt_same::same;
 use std::test::Fail;
 
 #[test]
@@ -17,7 +18,7 @@ fn run_writes_each_reply(rt: HostRuntime) -> Result<(), Fail> {
         ),
     ];
     for (trace, text) in cases {
-        assert_eq!(rt; written(&rt, "run", trace)?.as_slice(), text);
+        same(written(&rt, "run", trace)?.as_slice(), text)?;
     }
     Ok(())
 }
@@ -26,11 +27,7 @@ fn run_writes_each_reply(rt: HostRuntime) -> Result<(), Fail> {
 fn run_writes_sums_and_a_table(rt: HostRuntime) -> Result<(), Fail> {
     let text =
         b"thread 0\nreplies 2\nsum 0\nend done\nnumber,phase,held,live,bodies,stubs,end\n".as_slice();
-    assert_eq!(rt;
-        written(&rt, "run --table --quiet", TRACE)?.as_slice(),
-        text
-    );
-    Ok(())
+    same(written(&rt, "run --table --quiet", TRACE)?.as_slice(), text)
 }
 
 /// Threads that share no object have the same replies in any order.
@@ -41,7 +38,6 @@ fn threads_are_not_seen_in_sums(rt: HostRuntime) -> Result<(), Fail> {
     let ordered = written(&rt, "step --quiet", &trace)?;
     let running = written(&rt, "run --quiet", &trace)?;
     let silent = written(&rt, "run --quiet --every 100 --heap=16384", &trace)?;
-    assert_eq!(rt; running.as_slice(), ordered.as_slice());
-    assert_eq!(rt; silent.as_slice(), ordered.as_slice());
-    Ok(())
+    same(running.as_slice(), ordered.as_slice())?;
+    same(silent.as_slice(), ordered.as_slice())
 }
