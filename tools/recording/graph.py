@@ -1,0 +1,271 @@
+"""The objects of a program and what leads to what, as of the end of each window.
+
+At the end of a window only the objects are looked into of which `gc.get_referents` answers other things than before, one by one by
+identity. That is a question to all objects, but one that C code answers for many at once. What else there is follows: new objects
+are behind references that are new, and objects that are gone are found by a tree of shortest ways. The tree holds each object by
+one reference. Where such a reference goes away, what hung from it is held by another one or is not reached any more, and
+nothing else has to be looked at.
+
+The full walk, which asks nothing of windows before, is the reference. Both have to find the same.
+"""
+import gc
+import heapq
+from itertools import count
+from operator import is_
+
+from recording.roles import BUFFER, ROLES, kind_of, looked_into
+
+SHOWN = 8                  # steps of a way that are told
+BLOCK = 32                 # objects that are asked for their references at once
+FAR = 1 << 20              # how far frames are: a way from a module comes first, since it stays
+
+
+class Differs(Exception):
+    """The fast way found something else than the full walk."""
+
+
+class Node:
+    """An object of the program, or one of the two tops: the variables of modules, and those of frames."""
+    __slots__ = ("thing", "found", "kids", "words", "number", "holders", "parent", "depth", "block", "form")
+
+    def __init__(self, thing, number):
+        self.thing, self.number = thing, number
+        self.found = None      # what it refers to, as a list; it keeps what stands in it alive, so that no identity is given again
+        self.kids = {}         # the nodes that it leads to, in order
+        self.words = 0
+        self.holders = {}      # the nodes that lead to it
+        self.parent = self.depth = None
+        self.block = self.form = None
+
+
+class Block:
+    """Some nodes, and all that they refer to in one list."""
+    __slots__ = ("nodes", "things", "found")
+
+    def __init__(self, nodes):
+        self.nodes = nodes
+        self.things = [node.thing for node in nodes]
+        self.found = [other for node in nodes for other in node.found]
+        for node in nodes:
+            node.block = self
+
+    def is_as_it_was(self):
+        return same(gc.get_referents(*self.things), self.found)
+
+
+def same(these, those):
+    """Whether two lists hold the same things. No `==` is asked for, which could be code of the program."""
+    return len(these) == len(those) and all(map(is_, these, those))
+
+
+class Change:
+    """What a window changed: the nodes that are new, those that lead elsewhere, and those that are not reached any more."""
+
+    def __init__(self):
+        self.new, self.changed, self.gone = {}, {}, {}
+        self.found = []        # the new ones, also those that are reached by nothing that is reached
+        self.before = {}       # the parent of each node whose parent changed
+        self.last = []         # what has to live until the window is over, since code of the program runs when it goes
+
+
+class Graph:
+    def __init__(self):
+        self.nodes = {}
+        self.numbers = count()
+        self.top, self.frames = self.tops = Node(None, next(self.numbers)), Node(None, next(self.numbers))
+        for node, depth in zip(self.tops, (0, FAR)):
+            node.depth, node.found = depth, []
+        self.blocks = {}
+        self.buffers = {}
+
+    # ------------------------------------------------------------ what is different
+
+    def by_comparing(self, held):
+        """The nodes that changed, with what they refer to now."""
+        changed = self.changed_tops(held)
+        for block in self.blocks:
+            if not block.is_as_it_was():
+                for node in block.nodes:
+                    found = gc.get_referents(node.thing)
+                    if not same(found, node.found):
+                        changed.append((node, found))
+        known = {node for node, _ in changed}
+        changed += [(node, node.found) for node in self.buffers
+                    if node not in known and looked_into(node.thing, node.found)[1] != node.words]
+        return changed
+
+    def by_walking(self, held):
+        """The same, by a walk to all that can be reached, and all that was found."""
+        walked = self.walk(held)
+        changed = self.changed_tops(held)
+        for node in self.nodes.values():
+            if id(node.thing) in walked:
+                _, found, _, words = walked[id(node.thing)]
+                if not same(found, node.found) or words != node.words:
+                    changed.append((node, found))
+        return changed, walked
+
+    def changed_tops(self, held):
+        return [(node, found) for node, found in zip(self.tops, held) if not same(found, node.found)]
+
+    def walk(self, held):
+        """All that can be reached, by its identity: the thing, what it refers to, the identities of its kids, its words."""
+        walked, todo = {}, [thing for found in held for thing in found]
+        while todo:
+            thing = todo.pop()
+            if id(thing) in walked:
+                continue
+            found = gc.get_referents(thing)
+            kids, words = looked_into(thing, found)
+            walked[id(thing)] = thing, found, list(kids), words
+            todo += kids.values()
+        return walked
+
+    def compare(self, walked):
+        """That the nodes are what a full walk found."""
+        if walked.keys() != self.nodes.keys():
+            raise Differs(f"{len(self.nodes.keys() - walked.keys())} objects more and {len(walked.keys() - self.nodes.keys())} "
+                          "fewer than by the full walk")
+        for identity, (thing, found, kids, words) in walked.items():
+            node = self.nodes[identity]
+            if node.thing is not thing or [id(kid.thing) for kid in node.kids] != kids or node.words != words:
+                raise Differs(f"an object of the type {type(thing).__name__} is not as by the full walk")
+
+    # ------------------------------------------------------------ taking it over
+
+    def update(self, changed):
+        """Takes over what the changed nodes refer to now, and answers what that changed."""
+        change, added, removed = Change(), [], []
+        todo = sorted(changed, key=lambda pair: pair[0].number)
+        for node, found in todo:
+            before = node.kids
+            change.last.append(node.found)
+            self.look_into(node, found, change)
+            change.changed[node] = None
+            added += [(node, kid) for kid in node.kids if kid not in before]
+            removed += [(node, kid) for kid in before if kid not in node.kids]
+        for node in change.found:  # it grows while it is gone through
+            self.look_into(node, gc.get_referents(node.thing), change)
+            added += [(node, kid) for kid in node.kids]
+        Ways(self, change).update(added, removed)
+        self.let_go(change)
+        self.renew_blocks(change)
+        return change
+
+    def look_into(self, node, found, change):
+        if node in self.tops:
+            kids = {id(thing): thing for thing in found}
+        else:
+            kids, node.words = looked_into(node.thing, found)
+        node.found = found
+        node.kids = {self.node_of(identity, thing, change): None for identity, thing in kids.items()}
+
+    def node_of(self, identity, thing, change):
+        node = self.nodes.get(identity)
+        if node is None:
+            node = self.nodes[identity] = Node(thing, next(self.numbers))
+            change.new[node] = None
+            change.found.append(node)
+            if ROLES[type(thing)] is BUFFER:
+                self.buffers[node] = None
+        return node
+
+    def let_go(self, change):
+        """Takes out the nodes that are not reached."""
+        for node in change.gone:
+            for kid in node.kids:
+                kid.holders.pop(node, None)
+            del self.nodes[id(node.thing)]
+            self.buffers.pop(node, None)
+            change.new.pop(node, None)
+            change.changed.pop(node, None)
+            change.last.append(node)
+
+    def renew_blocks(self, change):
+        """What changed now is likely to change again, so it comes to stand together."""
+        moved = [node for node in (*change.changed, *change.new) if node not in self.tops]
+        left = {node: None for node in (*moved, *change.gone)}
+        rest = []
+        for block in {node.block: None for node in left if node.block}:
+            del self.blocks[block]
+            rest += [node for node in block.nodes if node not in left]
+        for nodes in (rest, moved):
+            for at in range(0, len(nodes), BLOCK):
+                self.blocks[Block(nodes[at:at + BLOCK])] = None
+
+
+    def told_way(self, node, names, told):
+        """The shortest way from a variable to a node, in words. What was told of others is in `told`."""
+        chain = []
+        while node not in told and node not in self.tops:
+            chain.append(node)
+            node = node.parent
+        for node in reversed(chain):
+            kind = kind_of(node.thing)
+            if node.parent in self.tops:
+                name = names.get(id(node.thing)) if node.parent is self.top else "(a variable of a frame)"
+                told[node] = [name or "(a variable)", kind]
+            else:
+                told[node] = [*told[node.parent], kind]
+        return " > ".join(shortened(told[node]))
+
+
+def shortened(way):
+    return way if len(way) <= SHOWN else [*way[:SHOWN // 2], "..", *way[-(SHOWN // 2):]]
+
+
+class Ways:
+    """The tree of shortest ways, brought up to date behind references that were added and removed."""
+
+    def __init__(self, graph, change):
+        self.graph, self.change = graph, change
+        self.lost = {}         # nodes whose way is gone, and the new ones
+        self.heap, self.turn = [], count()
+
+    def update(self, added, removed):
+        for node, kid in removed:
+            del kid.holders[node]
+        for node, kid in added:
+            kid.holders[node] = None
+        self.lose([kid for node, kid in removed if kid.parent is node])
+        self.lost.update(self.change.new)
+        for node in list(self.lost):
+            self.offer_best(node)
+        for node, kid in added:
+            if node.depth is not None:
+                self.offer(kid, node)
+        self.settle()
+        self.change.gone = self.lost
+
+    def lose(self, nodes):
+        """Takes the ways from these nodes, and from all that hangs from them."""
+        while nodes:
+            node = nodes.pop()
+            if node not in self.lost:
+                self.lost[node] = None
+                nodes += [kid for kid in node.kids if kid.parent is node]
+        for node in self.lost:
+            self.change.before[node] = node.parent
+            node.parent = node.depth = None
+
+    def offer_best(self, node):
+        best = min((holder for holder in node.holders if holder.depth is not None), key=lambda holder: holder.depth, default=None)
+        if best:
+            self.offer(node, best)
+
+    def offer(self, node, parent):
+        depth = parent.depth + 1
+        if node.depth is None or depth < node.depth:
+            heapq.heappush(self.heap, (depth, next(self.turn), node, parent))
+
+    def settle(self):
+        """The nearest first: who gets a way offers it to its kids."""
+        while self.heap:
+            depth, _, node, parent = heapq.heappop(self.heap)
+            if node.depth is not None and node.depth <= depth:
+                continue
+            self.lost.pop(node, None)
+            self.change.before.setdefault(node, node.parent)
+            node.parent, node.depth = parent, depth
+            for kid in node.kids:
+                self.offer(kid, node)
