@@ -50,21 +50,25 @@ class Files:
                 pass
 
 
-def plain(value):
-    """A field of a line of NAME.kinds."""
-    return "-" if value is None else "".join(c if c.isprintable() else "?" for c in str(value))
+def plain(text):
+    """A name as a field of a line of NAME.kinds."""
+    return "-" if text is None else text if text.isprintable() else "".join(c if c.isprintable() else "?" for c in text)
+
+
+def count(number):
+    return "-" if number is None else number
 
 
 def kinds(trace, program, window, first_use):
-    """The lines of NAME.kinds, whose head says what they are."""
-    yield "kinds 1\n"
-    yield f"program {plain(program)}\nwindow {window}\nfirst {first_use}\nlast {trace.uses}\noperations {trace.operations}\n"
+    """The lines of NAME.kinds; --help says what they are."""
+    yield f"kinds 1\nprogram {plain(program)}\nwindow {window}\nfirst {first_use}\n"
+    yield f"last {trace.uses}\noperations {trace.operations}\n"
     for identity, row in enumerate(trace.rows, 1):
         if row.head is None:
-            fields = ["object", identity, row.slots, row.numbers, row.made, row.used, row.gone, row.kind, row.place, row.held]
+            yield (f"object\t{identity}\t{row.slots}\t{row.numbers}\t{row.made}\t{count(row.used)}\t{count(row.gone)}\t"
+                   f"{plain(row.kind)}\t{plain(row.place)}\t{plain(row.held)}\n")
         else:
-            fields = ["cell", identity, row.slots, row.numbers, row.made, row.head, row.gone]
-        yield "\t".join(map(plain, fields)) + "\n"
+            yield f"cell\t{identity}\t{row.slots}\t{row.numbers}\t{row.made}\t{row.head}\t{count(row.gone)}\n"
 
 
 def objects_in(trace):

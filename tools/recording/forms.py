@@ -40,8 +40,8 @@ class Form:
     def __init__(self, head):
         self.cells = [head]    # those with slots, in the order of their making, and the head
         self.places = {}       # for each node that the object leads to: a cell and a slot
-        self.free = [(head, slot) for slot in range(len(head.content))][::-1]
-        self.pads = []
+        self.free = [(head, slot) for slot in reversed(range(len(head.content)))]
+        self.pads = ()
         self.turn = 0          # all slots of the cells before this one lead to cells already
         self.words = head.words()
 
@@ -79,19 +79,25 @@ class Form:
 
     def add(self, cell):
         """Takes in a new cell, and the slots that it has."""
-        (self.cells if cell.is_branch() else self.pads).append(cell)
+        if cell.is_branch():
+            self.cells.append(cell)
+        else:
+            self.pads += cell,
         self.words += cell.words()
-        self.free += [(cell, slot) for slot in range(len(cell.content))][::-1]
+        self.free += [(cell, slot) for slot in reversed(range(len(cell.content)))]
 
     def remove(self, cell):
-        (self.cells if cell.is_branch() else self.pads).remove(cell)
+        if cell.is_branch():
+            self.cells.remove(cell)
+        else:
+            self.pads = tuple(pad for pad in self.pads if pad is not cell)
         self.words -= cell.words()
         self.turn = 0
         if cell.is_branch():
             self.free = [place for place in self.free if place[0] is not cell]
 
     def all_cells(self):
-        return self.cells + self.pads
+        return [*self.cells, *self.pads]
 
 
 def first_shape(kids, words, fixed):

@@ -2,21 +2,19 @@
 
 At the end of a window only the objects are looked into of which `gc.get_referents` answers other things than before, one by one by
 identity. That is a question to all objects, but one that C code answers for many at once. What else there is follows: new objects
-are behind references that are new, and objects that are gone are found by a tree of shortest ways. The tree holds each object by
-one reference. Where such a reference goes away, what hung from it is held by another one or is not reached any more, and
-nothing else has to be looked at.
+are behind references that are new, and objects that are gone are found by a tree of ways. The tree holds each object by one reference. Where such
+a reference goes away, what hung from it is held by another one or is not reached any more, and nothing else has to be looked at.
 
 The full walk, which asks nothing of windows before, is the reference. Both have to find the same.
 """
 import gc
 import heapq
 from itertools import count
-from operator import is_
 
-from recording.roles import BUFFER, ROLES, kind_of, looked_into
+from recording.roles import BUFFER, ROLES, is_fixed, kind_of, looked_into, same
 
 SHOWN = 8                  # steps of a way that are told
-BLOCK = 32                 # objects that are asked for their references at once
+BLOCK = 64                 # objects that are asked for their references at once
 FAR = 1 << 20              # how far frames are: a way from a module comes first, since it stays
 
 
@@ -51,11 +49,6 @@ class Block:
 
     def is_as_it_was(self):
         return same(gc.get_referents(*self.things), self.found)
-
-
-def same(these, those):
-    """Whether two lists hold the same things. No `==` is asked for, which could be code of the program."""
-    return len(these) == len(those) and all(map(is_, these, those))
 
 
 class Change:
@@ -183,7 +176,7 @@ class Graph:
 
     def renew_blocks(self, change):
         """What changed now is likely to change again, so it comes to stand together."""
-        moved = [node for node in (*change.changed, *change.new) if node not in self.tops]
+        moved = [node for node in (*change.changed, *change.new) if node not in self.tops and not is_fixed(node.thing)]
         left = {node: None for node in (*moved, *change.gone)}
         rest = []
         for block in {node.block: None for node in left if node.block}:
@@ -214,8 +207,18 @@ def shortened(way):
     return way if len(way) <= SHOWN else [*way[:SHOWN // 2], "..", *way[-(SHOWN // 2):]]
 
 
+def is_worth(depth, before):
+    """Whether a way of one depth is worth leaving another: where that comes from a frame, or is twice as long."""
+    return depth < FAR <= before or before - depth > 8 + depth % FAR
+
+
 class Ways:
-    """The tree of shortest ways, brought up to date behind references that were added and removed."""
+    """The tree of ways, brought up to date behind references that were added and removed.
+
+    An object stays where it hangs as long as that reference is there, unless a new one is a far shorter way: else all that hangs
+    from an object would be gone through whenever a frame holds it, and again when not. So depths are bounds. What counts is
+    that a parent has less depth than its kid: no way goes in a circle.
+    """
 
     def __init__(self, graph, change):
         self.graph, self.change = graph, change
@@ -227,7 +230,7 @@ class Ways:
             del kid.holders[node]
         for node, kid in added:
             kid.holders[node] = None
-        self.lose([kid for node, kid in removed if kid.parent is node])
+        self.lose({kid: None for node, kid in removed if kid.parent is node})
         self.lost.update(self.change.new)
         for node in list(self.lost):
             self.offer_best(node)
@@ -238,31 +241,49 @@ class Ways:
         self.change.gone = self.lost
 
     def lose(self, nodes):
-        """Takes the ways from these nodes, and from all that hangs from them."""
-        while nodes:
-            node = nodes.pop()
-            if node not in self.lost:
-                self.lost[node] = None
-                nodes += [kid for kid in node.kids if kid.parent is node]
-        for node in self.lost:
-            self.change.before[node] = node.parent
+        """Takes the ways from these nodes, and from what hangs from them, but where another reference is a way.
+
+        The nodes of least depth come first. So when one is looked at, all of less depth that lose their ways have lost them, and a holder
+        of less depth that has its way keeps it.
+        """
+        heap = [(node.depth, node.number, node) for node in nodes]
+        heapq.heapify(heap)
+        before, lost = self.change.before, self.lost
+        while heap:
+            depth, _, node = heapq.heappop(heap)
+            if node in lost:
+                continue
+            before.setdefault(node, node.parent)
+            for holder in node.holders:
+                if holder.depth is not None and holder.depth < depth and holder not in lost:
+                    node.parent = holder
+                    break
+            else:
+                lost[node] = None
+                for kid in node.kids:
+                    if kid.parent is node:
+                        heapq.heappush(heap, (kid.depth, kid.number, kid))
+        for node in lost:
             node.parent = node.depth = None
 
     def offer_best(self, node):
-        best = min((holder for holder in node.holders if holder.depth is not None), key=lambda holder: holder.depth, default=None)
+        best = None
+        for holder in node.holders:
+            if holder.depth is not None and (best is None or holder.depth < best.depth):
+                best = holder
         if best:
             self.offer(node, best)
 
     def offer(self, node, parent):
         depth = parent.depth + 1
-        if node.depth is None or depth < node.depth:
+        if node.depth is None or is_worth(depth, node.depth):
             heapq.heappush(self.heap, (depth, next(self.turn), node, parent))
 
     def settle(self):
         """The nearest first: who gets a way offers it to its kids."""
         while self.heap:
             depth, _, node, parent = heapq.heappop(self.heap)
-            if node.depth is not None and node.depth <= depth:
+            if node.depth is not None and not is_worth(depth, node.depth):
                 continue
             self.lost.pop(node, None)
             self.change.before.setdefault(node, node.parent)

@@ -3,7 +3,7 @@ import sys
 from _thread import get_ident
 
 from recording.rewriting import USE
-from recording.roles import is_object
+from recording.roles import is_object, same
 
 
 def is_own(name):
@@ -28,7 +28,9 @@ class Modules:
     """The watched modules, and what their variables hold."""
 
     def __init__(self):
-        self.called = {}       # each module, by its identity, with the name that is told of it
+        self.called = {}       # each module by its identity, with the name that is told of it
+        self.spaces = {}       # the names and values of each module and class, as they were, by its identity
+        self.held = []
 
     def add(self, module, called):
         self.called[id(module)] = module, called
@@ -38,7 +40,22 @@ class Modules:
             yield from variables_of(module, called)
 
     def values(self):
-        return [value for _, value in self.variables() if is_object(value)]
+        """The objects that variables hold. They are gone through where a name or a value is another one than the last time."""
+        if not self.are_as_they_were():
+            self.spaces = {id(space): (vars(space), list(vars(space)), list(vars(space).values())) for space in self.owners()}
+            self.held = [value for _, value in self.variables() if is_object(value)]
+        return self.held
+
+    def owners(self):
+        """The modules, and their classes."""
+        for module, _ in self.called.values():
+            yield module
+            yield from [value for value in vars(module).values() if isinstance(value, type)]
+
+    def are_as_they_were(self):
+        modules = sum(identity in self.spaces for identity in self.called)
+        return modules == len(self.called) and all(
+            same(list(space), names) and same(list(space.values()), values) for space, names, values in self.spaces.values())
 
     def names(self):
         """The first name of each object that a variable holds, by the identity of the object."""

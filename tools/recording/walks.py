@@ -46,8 +46,12 @@ def registers_of(tree, top):
     for node in order:         # it grows while it is gone through
         order += tree.get(node, ())
     for node in reversed(order):
-        branches = sorted((needs[kid] for kid in tree.get(node, ())), reverse=True)
-        needs[node] = max(branches[:1] + [branches[1] + 1] if len(branches) > 1 else branches or [1])
+        branches = tree.get(node, ())
+        if len(branches) > 1:
+            *_, second, first = sorted([needs[kid] for kid in branches])
+            needs[node] = max(first, second + 1)
+        else:
+            needs[node] = needs[branches[0]] if branches else 1
     return needs
 
 
@@ -63,12 +67,16 @@ def go(tree, top, load, visit):
             if node not in visited:
                 visited.add(node)
                 visit(node, register)
-            kids = sorted(branches.get(node, ()), key=needs.__getitem__, reverse=True)
-            for place, kid in enumerate(kids):
-                if register + (place > 0) <= LAST:
-                    todo.append((node, register, kid, register + (place > 0)))
-                else:
-                    trees.append(branch_alone(branches, top, node, kid))
+            kids = branches.get(node)
+            if not kids:
+                continue
+            if len(kids) > 1:
+                kids = sorted(kids, key=needs.__getitem__, reverse=True)
+            todo.append((node, register, kids[0], register))
+            if register < LAST:
+                todo += [(node, register, kid, register + 1) for kid in kids[1:]]
+            else:
+                trees += [branch_alone(branches, top, node, kid) for kid in kids[1:]]
 
 
 def branch_alone(tree, top, node, kid):
