@@ -9,9 +9,10 @@ The full walk, which asks nothing of windows before, is the reference. Both have
 """
 import gc
 import heapq
+from collections import Counter
 from itertools import count
 
-from recording.roles import BUFFER, ROLES, is_fixed, kind_of, looked_into, same
+from recording.roles import BUFFER, ROLES, difference, is_fixed, kind_of, own_words, parts, same
 
 SHOWN = 8                  # steps of a way that are told
 BLOCK = 64                 # objects that are asked for their references at once
@@ -24,16 +25,19 @@ class Differs(Exception):
 
 class Node:
     """An object of the program, or one of the two tops: the variables of modules, and those of frames."""
-    __slots__ = ("thing", "found", "kids", "words", "number", "holders", "parent", "depth", "block", "form")
+    __slots__ = ("thing", "found", "kids", "own", "more", "number", "holders", "parent", "depth", "block", "form")
 
     def __init__(self, thing, number):
         self.thing, self.number = thing, number
-        self.found = None      # what it refers to, as a list; it keeps what stands in it alive, so that no identity is given again
-        self.kids = {}         # the nodes that it leads to, in order
-        self.words = 0
+        self.found = []        # what it refers to; this keeps all of it alive, so that no identity is given again
+        self.kids = {}         # the nodes that it leads to, and how often
+        self.own = self.more = 0       # the words that it takes by itself, and for what it refers to
         self.holders = {}      # the nodes that lead to it
         self.parent = self.depth = None
         self.block = self.form = None
+
+    def words(self):
+        return self.own + self.more
 
 
 class Block:
@@ -55,7 +59,8 @@ class Change:
     """What a window changed: the nodes that are new, those that lead elsewhere, and those that are not reached any more."""
 
     def __init__(self):
-        self.new, self.changed, self.gone = {}, {}, {}
+        self.new, self.gone = {}, {}
+        self.changed = {}      # for each such node the kids that are new to it, and those that are none any more
         self.found = []        # the new ones, also those that are reached by nothing that is reached
         self.before = {}       # the parent of each node whose parent changed
         self.last = []         # what has to live until the window is over, since code of the program runs when it goes
@@ -67,7 +72,7 @@ class Graph:
         self.numbers = count()
         self.top, self.frames = self.tops = Node(None, next(self.numbers)), Node(None, next(self.numbers))
         for node, depth in zip(self.tops, (0, FAR)):
-            node.depth, node.found = depth, []
+            node.depth = depth
         self.blocks = {}
         self.buffers = {}
 
@@ -84,7 +89,7 @@ class Graph:
                         changed.append((node, found))
         known = {node for node, _ in changed}
         changed += [(node, node.found) for node in self.buffers
-                    if node not in known and looked_into(node.thing, node.found)[1] != node.words]
+                    if node not in known and own_words(node.thing) != node.own]
         return changed
 
     def by_walking(self, held):
@@ -94,7 +99,7 @@ class Graph:
         for node in self.nodes.values():
             if id(node.thing) in walked:
                 _, found, _, words = walked[id(node.thing)]
-                if not same(found, node.found) or words != node.words:
+                if not same(found, node.found) or words != node.words():
                     changed.append((node, found))
         return changed, walked
 
@@ -102,16 +107,16 @@ class Graph:
         return [(node, found) for node, found in zip(self.tops, held) if not same(found, node.found)]
 
     def walk(self, held):
-        """All that can be reached, by its identity: the thing, what it refers to, the identities of its kids, its words."""
+        """All that can be reached, by its identity: the thing, what it refers to, which objects these are and how often, its words."""
         walked, todo = {}, [thing for found in held for thing in found]
         while todo:
             thing = todo.pop()
             if id(thing) in walked:
                 continue
             found = gc.get_referents(thing)
-            kids, words = looked_into(thing, found)
-            walked[id(thing)] = thing, found, list(kids), words
-            todo += kids.values()
+            objects, words = parts(thing, found)
+            walked[id(thing)] = thing, found, Counter(map(id, objects)), own_words(thing) + words
+            todo += objects
         return walked
 
     def compare(self, walked):
@@ -121,7 +126,8 @@ class Graph:
                           "fewer than by the full walk")
         for identity, (thing, found, kids, words) in walked.items():
             node = self.nodes[identity]
-            if node.thing is not thing or [id(kid.thing) for kid in node.kids] != kids or node.words != words:
+            is_same = node.thing is thing and node.words() == words
+            if not is_same or {id(kid.thing): often for kid, often in node.kids.items()} != kids:
                 raise Differs(f"an object of the type {type(thing).__name__} is not as by the full walk")
 
     # ------------------------------------------------------------ taking it over
@@ -131,12 +137,9 @@ class Graph:
         change, added, removed = Change(), [], []
         todo = sorted(changed, key=lambda pair: pair[0].number)
         for node, found in todo:
-            before = node.kids
-            change.last.append(node.found)
-            self.look_into(node, found, change)
-            change.changed[node] = None
-            added += [(node, kid) for kid in node.kids if kid not in before]
-            removed += [(node, kid) for kid in before if kid not in node.kids]
+            more, fewer = change.changed[node] = self.look_into(node, found, change)
+            added += [(node, kid) for kid in more]
+            removed += [(node, kid) for kid in fewer]
         for node in change.found:  # it grows while it is gone through
             self.look_into(node, gc.get_referents(node.thing), change)
             added += [(node, kid) for kid in node.kids]
@@ -146,21 +149,37 @@ class Graph:
         return change
 
     def look_into(self, node, found, change):
-        if node in self.tops:
-            kids = {id(thing): thing for thing in found}
-        else:
-            kids, node.words = looked_into(node.thing, found)
+        """Takes over what a node refers to now, and answers which kids are new and which are none any more."""
+        change.last.append(node.found)
+        before, now = difference(node.found, found)
         node.found = found
-        node.kids = {self.node_of(identity, thing, change): None for identity, thing in kids.items()}
+        if node in self.tops:
+            gone, come = before, now
+        else:
+            gone, words_gone = parts(node.thing, before)
+            come, words_come = parts(node.thing, now)
+            node.own, node.more = own_words(node.thing), node.more + words_come - words_gone
+        kids, more, fewer = node.kids, [], []
+        for thing in come:
+            kid = self.nodes.get(id(thing)) or self.new_node(thing, change)
+            if kid not in kids:
+                kids[kid] = 0
+                more.append(kid)
+            kids[kid] += 1
+        for thing in gone:
+            kid = self.nodes[id(thing)]
+            kids[kid] -= 1
+            if not kids[kid]:
+                del kids[kid]
+                fewer.append(kid)
+        return more, fewer
 
-    def node_of(self, identity, thing, change):
-        node = self.nodes.get(identity)
-        if node is None:
-            node = self.nodes[identity] = Node(thing, next(self.numbers))
-            change.new[node] = None
-            change.found.append(node)
-            if ROLES[type(thing)] is BUFFER:
-                self.buffers[node] = None
+    def new_node(self, thing, change):
+        node = self.nodes[id(thing)] = Node(thing, next(self.numbers))
+        change.new[node] = None
+        change.found.append(node)
+        if ROLES[type(thing)] is BUFFER:
+            self.buffers[node] = None
         return node
 
     def let_go(self, change):

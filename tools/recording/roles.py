@@ -11,14 +11,14 @@ import tracemalloc
 import types
 from operator import is_
 
-NOTHING, TEXT, FUNCTION, BUFFER, OBJECT = range(5)
+NOTHING, NUMBER, TEXT, FUNCTION, BUFFER, OBJECT = range(6)
 LONG = 200                 # characters from which a text is an object of its own; a shorter one counts as words of what holds it
 WORD = 8
 
 _no_objects = (type, types.ModuleType, types.CodeType, types.FrameType, types.TracebackType, type(None), type(...),
                type(NotImplemented), types.GetSetDescriptorType, types.MemberDescriptorType, types.WrapperDescriptorType,
                types.MethodDescriptorType, types.ClassMethodDescriptorType)
-_numbers = (bool, int, float, complex)
+_numbers = (int, float, complex)
 _buffers = (bytearray, array.array, io.BytesIO, io.StringIO)
 
 
@@ -26,7 +26,9 @@ class Roles(dict):
     """The role of each type, found when it is first asked for."""
 
     def __missing__(self, kind):
-        if kind in _numbers or issubclass(kind, _no_objects):
+        if kind in _numbers:
+            role = NUMBER
+        elif kind is bool or issubclass(kind, _no_objects):
             role = NOTHING
         elif kind in (str, bytes):
             role = TEXT
@@ -46,7 +48,7 @@ def is_object(thing):
     role = ROLES[type(thing)]
     if role is TEXT:
         return len(thing) >= LONG
-    return role is not NOTHING and id(thing) not in hidden
+    return role > TEXT and id(thing) not in hidden
 
 
 def same(these, those):
@@ -69,29 +71,43 @@ def is_fixed(thing):
     return type(thing) in (tuple, frozenset, str, bytes)
 
 
-def looked_into(thing, found):
-    """The objects that a thing refers to, each once and by its id, and how many words it takes, when `found` is what it refers to."""
+def own_words(thing):
+    """The words that a thing takes by itself."""
     kind = type(thing)
     if kind in (str, bytes):
-        return {}, 7 + len(thing) // WORD
-    kids = {}
-    words = kind.__basicsize__ // WORD + 2 + len(found)
-    apart = (thing.__globals__, thing.__builtins__) if kind is types.FunctionType else ()
+        return 7 + len(thing) // WORD
+    return kind.__basicsize__ // WORD + 2 + (sys.getsizeof(thing) // WORD if ROLES[kind] is BUFFER else 0)
+
+
+def parts(thing, found):
+    """The objects in a list of things that a thing refers to, and the words that the thing takes for all of the list."""
+    apart = (id(thing.__globals__), id(thing.__builtins__)) if type(thing) is types.FunctionType else ()
+    objects, words, roles = [], len(found), ROLES
     for other in found:
-        role = ROLES[type(other)]
+        role = roles[type(other)]
         if role is OBJECT:
-            kids[id(other)] = other
+            if not apart or id(other) not in apart:
+                objects.append(other)
         elif role is TEXT:
             if len(other) >= LONG:
-                kids[id(other)] = other
+                objects.append(other)
             else:
                 words += 7 + len(other) // WORD
-        elif role is not NOTHING and id(other) not in hidden:
-            kids[id(other)] = other
-        elif type(other) in _numbers and type(other) is not bool:
+        elif role is NUMBER:
             words += 3
-    for other in apart:
-        kids.pop(id(other), None)
-    if ROLES[kind] is BUFFER:
-        words += sys.getsizeof(thing) // WORD
-    return kids, words
+        elif role is not NOTHING and id(other) not in hidden:
+            objects.append(other)
+    return objects, words
+
+
+def difference(before, now):
+    """What two lists have between what they begin and end with alike: two lists again."""
+    begin = first_difference(before, now)
+    before, now = before[begin:], now[begin:]
+    end = first_difference(before[::-1], now[::-1])
+    return (before[:-end], now[:-end]) if end else (before, now)
+
+
+def first_difference(these, those):
+    alike = list(map(is_, these, those))
+    return alike.index(False) if False in alike else len(alike)

@@ -29,13 +29,13 @@ class Window:
     def write(self):
         self.count_wanted()
         self.collect()
-        for node in self.change.changed:
+        for node, kids in self.change.changed.items():
             self.take_up(node)
-            self.fill(node, BOTTOM)
+            self.fill(node, BOTTOM, *kids)
         while self.later:
             node = self.later.pop()
             self.shelf.get(node, BOTTOM)
-            self.fill(node, BOTTOM)
+            self.fill(node, BOTTOM, node.kids)
         self.shelf.clear()
         self.end_what_is_gone()
         self.walk({node: None for node in self.used if node not in self.read}, lambda node: node.parent, self.read_back)
@@ -43,11 +43,10 @@ class Window:
             self.say(f"drop {register}")
 
     def count_wanted(self):
-        for node in (*self.change.changed, *self.change.new):
-            there = node.form.places if node.form else ()
-            for kid in node.kids:
-                if kid not in there:
-                    self.wanted[kid] = self.wanted.get(kid, 0) + 1
+        wanted = self.wanted
+        for kids in (*(more for more, _ in self.change.changed.values()), *(node.kids for node in self.change.new)):
+            for kid in kids:
+                wanted[kid] = wanted.get(kid, 0) + 1
 
     # ------------------------------------------------------------ walks
 
@@ -99,7 +98,7 @@ class Window:
             self.say(f"gstore {self.graph.tops.index(node)} {BOTTOM}")
 
     def make(self, node, register):
-        slots, numbers = first_shape(len(node.kids), node.words, is_fixed(node.thing))
+        slots, numbers = first_shape(len(node.kids), node.words(), is_fixed(node.thing))
         kind, place = self.told_of(node)
         identity = self.lines.new(register, slots, numbers, kind, place=place)
         node.form = Form(Cell(identity, slots, numbers))
@@ -111,19 +110,18 @@ class Window:
             return TOPS[self.graph.tops.index(node)], None
         return kind_of(node.thing), place_of(node.thing)
 
-    def fill(self, node, register):
-        """Stores what the node in this register leads to now."""
-        form = node.form
+    def fill(self, node, register, more, fewer=()):
+        """Stores into the node in this register: it leads to more nodes now, and to others no more."""
+        form, left = node.form, list(fewer)
         self.under_way[node] = register
-        left = [kid for kid in form.places if kid not in node.kids]
-        for kid in node.kids:
-            if kid not in form.places:
-                if left:
-                    place = form.places[left[-1]]
-                    form.take(form.places[left.pop()])
-                else:
-                    place = self.free_place(form, register)
-                self.lead_to(kid, form, register, place)
+        for kid in more:
+            if left:
+                place = form.places[left[-1]]
+                form.take(place)
+                left.pop()
+            else:
+                place = self.free_place(form, register)
+            self.lead_to(kid, form, register, place)
         for kid in left:
             self.empty(form, register, form.places[kid])
         self.fit_words(node, register)
@@ -142,7 +140,7 @@ class Window:
                 return
             self.make(kid, register + 1)
             self.store(form, register, place, register + 1)
-            self.fill(kid, register + 1)
+            self.fill(kid, register + 1, kid.kids)
             if self.wanted[kid]:
                 self.shelf.put(kid, register + 1)
         elif kid in self.under_way:
@@ -200,15 +198,16 @@ class Window:
 
     def fit_words(self, node, register):
         """Adds number words where the object has outgrown its cells by a quarter, and takes them away where half of them do."""
-        form = node.form
-        while node.words - form.words > max(8, form.words // 4) and not is_fixed(node.thing) or node.words - form.words > MOST:
+        form, words = node.form, node.words()
+        spare = MOST if is_fixed(node.thing) else min(MOST, max(8, form.words // 4))
+        while words - form.words > spare:
             place = self.free_place(form, register)
-            numbers = min(MOST, max(1, node.words - form.words - 2))
+            numbers = min(MOST, max(1, words - form.words - 2))
             cell = Cell(self.lines.new(MADE, 0, numbers, head=form.head.identity), 0, numbers)
             form.add(cell)
             form.put(place, cell)
             self.store(form, register, place, MADE)
-        while form.pads and node.words < form.words // 2:
+        while form.pads and words < form.words // 2:
             cell = form.pads[-1]
             form.remove(cell)
             self.lines.end(cell.identity)
