@@ -1,7 +1,8 @@
 """A cache with an eviction that is broken.
 
-Pages are made from parts and kept in a cache of 64. It takes the oldest page out when it has more; but what depends on a part is also
-kept, so that a part which changes can drop its pages, and there the pages that were taken out stay for ever.
+Pages are made from parts, and the last 64 that were asked for are kept. When a part changes, the pages that were made from it have to
+go, so there is a list of them for each part. A page that has to make room is taken out of the cache, but not out of these
+lists: those of parts that never change keep all pages that ever were.
 """
 import random
 import sys
@@ -33,7 +34,7 @@ class Cache:
             for part in parts:
                 self.depending.setdefault(part.number, []).append(page)
             if len(self.pages) > MOST:
-                self.pages.popitem(last=False)      # the page goes from here, and not from `depending`
+                self.pages.popitem(last=False)      # it should go from `depending` too
         else:
             self.pages.move_to_end(key)
         return page
@@ -44,10 +45,12 @@ class Cache:
             self.pages.pop(page.key, None)
 
 
+cache = Cache()
+parts = [Part(number) for number in range(40)]
+
+
 def main(requests):
-    rng, cache = random.Random(2), Cache()
-    parts = [Part(number) for number in range(40)]
-    length = 0
+    rng, length = random.Random(2), 0
     for request in range(requests):
         first = min(39, int(rng.expovariate(0.1)))
         key = first, rng.randrange(40), rng.randrange(4)

@@ -1,7 +1,8 @@
 """A web application whose session store forgets nobody.
 
-It answers requests as a WSGI application does, of visitors that come once, fill a basket, and never come back. Each of them gets a
-session, and no session ends: the store has an expiry, but whoever comes back is the one that is looked at, and the others are not.
+It answers requests as a WSGI application does, by calls and without a network. Visitors come, fill a basket, and never come back. A
+session that is too old is not used again; but only the session that a request names is ever looked at, so those of visitors who
+stay away are kept for ever, with all that they have seen. The items are used again and again, and the sessions are not.
 """
 import random
 import sys
@@ -32,7 +33,7 @@ class Store:
         session = self.sessions.get(key)
         if session is None or self.clock - session.last > LIFETIME:
             session = self.sessions[key] = Session(key, self.clock)
-        session.last = self.clock      # here the sessions that are too old should go
+        session.last = self.clock      # here the others that are too old should go
         return session
 
 
@@ -53,8 +54,11 @@ class Shop:
         return [f"{session.key}: {len(session.seen)} seen, {total} to pay\n".encode()]
 
 
+shop = Shop()
+
+
 def main(visitors):
-    rng, shop, sent = random.Random(1), Shop(), 0
+    rng, sent = random.Random(1), 0
     for visitor in range(visitors):
         for _ in range(rng.randint(1, 6)):
             item = min(119, int(rng.expovariate(0.05)))

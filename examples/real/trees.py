@@ -1,7 +1,8 @@
 """A language server in small that keeps each tree it ever parsed.
 
-It reads files of Python's own library by lib2to3, answers from the trees how often names stand in them, and never closes one. Record it with
-`--watch lib2to3`, for it is that package which makes the trees and goes through them. Python has lib2to3 up to version 3.12.
+It parses files of Python's own library by lib2to3, counts from the trees how often each name stands in them, and closes none. The
+package makes the trees and goes through them, so it is to be watched too: `tools/record --watch lib2to3 examples/real/trees.py`. Python has
+it up to version 3.12.
 """
 import glob
 import os

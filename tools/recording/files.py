@@ -66,7 +66,7 @@ def kinds(trace, program, window, first_use):
     for identity, row in enumerate(trace.rows, 1):
         if row.head is None:
             yield (f"object\t{identity}\t{row.slots}\t{row.numbers}\t{row.made}\t{count(row.used)}\t{count(row.gone)}\t"
-                   f"{plain(row.kind)}\t{plain(row.place)}\t{plain(row.held)}\n")
+                   f"{plain(row.kind)}\t{plain(row.place)}\t{plain(row.held and str(row.held))}\n")
         else:
             yield f"cell\t{identity}\t{row.slots}\t{row.numbers}\t{row.made}\t{row.head}\t{count(row.gone)}\n"
 

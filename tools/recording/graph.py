@@ -14,7 +14,8 @@ from itertools import count
 
 from recording.roles import BUFFER, ROLES, difference, is_fixed, kind_of, own_words, parts, same
 
-SHOWN = 8                  # steps of a way that are told
+SHOWN = 4                  # first steps of a way that are told, and last ones
+VARIABLE = "(a variable of a frame)"
 BLOCK = 64                 # objects that are asked for their references at once
 FAR = 1 << 20              # how far frames are: a way from a module comes first, since it stays
 
@@ -206,24 +207,38 @@ class Graph:
                 self.blocks[Block(nodes[at:at + BLOCK])] = None
 
 
-    def told_way(self, node, names, told):
-        """The shortest way from a variable to a node, in words. What was told of others is in `told`."""
-        chain = []
-        while node not in told and node not in self.tops:
-            chain.append(node)
-            node = node.parent
-        for node in reversed(chain):
-            kind = kind_of(node.thing)
-            if node.parent in self.tops:
-                name = names.get(id(node.thing)) if node.parent is self.top else "(a variable of a frame)"
-                told[node] = [name or "(a variable)", kind]
-            else:
-                told[node] = [*told[node.parent], kind]
-        return " > ".join(shortened(told[node]))
+    def told_ways(self, names):
+        """The shortest way to each node in words: from a variable of a module, or else from one of a frame."""
+        told = {}
+        for top in self.tops:
+            order = [(top, None)]
+            for node, way in order:    # it grows while it is gone through
+                for kid in node.kids:
+                    if kid not in told:
+                        name = names.get(id(kid.thing), VARIABLE) if top is self.top else VARIABLE
+                        told[kid] = Way(way or name, kind_of(kid.thing))
+                        order.append((kid, told[kid]))
+        return told
 
 
-def shortened(way):
-    return way if len(way) <= SHOWN else [*way[:SHOWN // 2], "..", *way[-(SHOWN // 2):]]
+class Way:
+    """A way to an object, in words: where it is long, its first steps and its last ones."""
+    __slots__ = ("before", "kind", "first", "length")
+
+    def __init__(self, before, kind):
+        self.before, self.kind = before, kind
+        begun = isinstance(before, Way)
+        self.length = before.length + 1 if begun else 2
+        steps = before.first if begun else (before,)
+        self.first = (*steps, kind) if len(steps) < SHOWN else steps
+
+    def __str__(self):
+        last, step = [], self
+        while len(last) < min(SHOWN, self.length - SHOWN):
+            last.append(step.kind)
+            step = step.before
+        skipped = [".."] * (self.length > 2 * SHOWN)
+        return " > ".join([*self.first, *skipped, *reversed(last)])
 
 
 def is_worth(depth, before):

@@ -146,11 +146,10 @@ class Recorder:
 
     def tell_holders(self):
         """Writes down what holds each object that is there."""
-        names, told = self.modules.names(), {}
-        for node in self.graph.nodes.values():
-            identity = node.form and node.form.head.identity
-            if identity and identity <= len(self.trace.rows):
-                self.trace.rows[identity - 1].held = self.graph.told_way(node, names, told)
+        rows = self.trace.rows
+        for node, way in self.graph.told_ways(self.modules.names()).items():
+            if node.form and node.form.head.identity <= len(rows):
+                rows[node.form.head.identity - 1].held = way
 
     def finish(self, why):
         """Ends the last window, when the program has come to its end or is to come there."""

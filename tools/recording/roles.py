@@ -21,6 +21,9 @@ _no_objects = (type, types.ModuleType, types.CodeType, types.FrameType, types.Tr
 _numbers = (int, float, complex)
 _buffers = (bytearray, array.array, io.BytesIO, io.StringIO)
 
+name_of = type.__dict__["__name__"].__get__           # of a type, whatever its metaclass answers
+size_of = type.__dict__["__basicsize__"].__get__
+
 
 class Roles(dict):
     """The role of each type, found when it is first asked for."""
@@ -57,7 +60,7 @@ def same(these, those):
 
 
 def kind_of(thing):
-    return type(thing).__name__
+    return name_of(type(thing))
 
 
 def place_of(thing):
@@ -76,7 +79,7 @@ def own_words(thing):
     kind = type(thing)
     if kind in (str, bytes):
         return 7 + len(thing) // WORD
-    return kind.__basicsize__ // WORD + 2 + (sys.getsizeof(thing) // WORD if ROLES[kind] is BUFFER else 0)
+    return size_of(kind) // WORD + 2 + (sys.getsizeof(thing) // WORD if ROLES[kind] is BUFFER else 0)
 
 
 def parts(thing, found):

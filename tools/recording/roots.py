@@ -5,57 +5,63 @@ from _thread import get_ident
 from recording.rewriting import USE
 from recording.roles import is_object, same
 
+space_of = type.__dict__["__dict__"].__get__           # the variables of a class, whatever its metaclass answers
+
 
 def is_own(name):
     """Whether a name is one that the program gave."""
     return name != USE and not (name.startswith("__") and name.endswith("__"))
 
 
-def variables_of(module, called):
+def is_class(value):
+    """Asked of its type, since a program may answer for `isinstance`."""
+    return issubclass(type(value), type)
+
+
+def variables_of(space, called):
     """The variables of a module and of its classes, as pairs of a name and a value."""
-    for name, value in list(vars(module).items()):
+    for name, value in list(space.items()):
         if not is_own(name):
             continue
-        if not isinstance(value, type):
+        if not is_class(value):
             yield f"{called}.{name}", value
-        elif value.__module__ == module.__name__:
-            for inner, held in list(vars(value).items()):
+        elif space_of(value).get("__module__") == space["__name__"]:
+            for inner, held in list(space_of(value).items()):
                 if is_own(inner):
                     yield f"{called}.{name}.{inner}", held
 
 
 class Modules:
-    """The watched modules, and what their variables hold."""
+    """The variables of the watched modules and of their classes, and what they hold."""
 
     def __init__(self):
-        self.called = {}       # each module by its identity, with the name that is told of it
-        self.spaces = {}       # the names and values of each module and class, as they were, by its identity
+        self.called = []       # for each module its variables, and the name that is told of it
+        self.spaces = []       # for each module and each class its variables, with names and values as they were
         self.held = []
+        self.known = 0         # how many modules there were then
 
     def add(self, module, called):
-        self.called[id(module)] = module, called
+        self.called.append((module.__dict__, called))
 
     def variables(self):
-        for module, called in self.called.values():
-            yield from variables_of(module, called)
+        for space, called in self.called:
+            yield from variables_of(space, called)
 
     def values(self):
         """The objects that variables hold. They are gone through where a name or a value is another one than the last time."""
-        if not self.are_as_they_were():
-            self.spaces = {id(space): (vars(space), list(vars(space)), list(vars(space).values())) for space in self.owners()}
+        if self.known != len(self.called) or not self.are_as_they_were():
+            self.known = len(self.called)
+            self.spaces = [(space, list(space), list(space.values())) for space in self.all_spaces()]
             self.held = [value for _, value in self.variables() if is_object(value)]
         return self.held
 
-    def owners(self):
-        """The modules, and their classes."""
-        for module, _ in self.called.values():
-            yield module
-            yield from [value for value in vars(module).values() if isinstance(value, type)]
+    def all_spaces(self):
+        for space, _ in self.called:
+            yield space
+            yield from [space_of(value) for value in space.values() if is_class(value)]
 
     def are_as_they_were(self):
-        modules = sum(identity in self.spaces for identity in self.called)
-        return modules == len(self.called) and all(
-            same(list(space), names) and same(list(space.values()), values) for space, names, values in self.spaces.values())
+        return all(same(list(space), names) and same(list(space.values()), values) for space, names, values in self.spaces)
 
     def names(self):
         """The first name of each object that a variable holds, by the identity of the object."""
