@@ -10,7 +10,7 @@ space_of = type.__dict__["__dict__"].__get__           # the variables of a clas
 
 def is_own(name):
     """Whether a name is one that the program gave."""
-    return name != USE and not (name.startswith("__") and name.endswith("__"))
+    return type(name) is str and name != USE and not (name.startswith("__") and name.endswith("__"))
 
 
 def is_class(value):
@@ -25,7 +25,7 @@ def variables_of(space, called):
             continue
         if not is_class(value):
             yield f"{called}.{name}", value
-        elif space_of(value).get("__module__") == space["__name__"]:
+        elif space_of(value).get("__module__") == space.get("__name__"):
             for inner, held in list(space_of(value).items()):
                 if is_own(inner):
                     yield f"{called}.{name}.{inner}", held
