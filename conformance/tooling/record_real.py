@@ -7,9 +7,9 @@ MOST = 20_000
 HEAPS = ["--heap", "65536"], ["--heap", "16384"]
 
 
-def real(name, *words):
+def real(name, size, *words):
     """Records a program with the check, and replays it over small heaps too."""
-    recorded(name, "--check-fast", "--operations", MOST, *words, REAL / f"{name}.py", 3_000)
+    recorded(name, "--check-fast", "--operations", MOST, *words, REAL / f"{name}.py", size)
     assert 0.75 * MOST < len(operations(name)) <= MOST
     replay(name, *HEAPS)
 
@@ -20,14 +20,14 @@ def ways(name, kind):
 
 def test_sessions(folder):
     """A session store that never forgets: each session is held by the store."""
-    real("sessions")
+    real("sessions", 1_000)
     assert "sessions.shop > Shop > Store > dict > Session" in ways("sessions", "Session")
     assert not any(row[6] != "-" for row in rows("sessions", "Session"))
 
 
 def test_evictions(folder):
     """A broken eviction: pages are held by the lists of their parts."""
-    real("evictions")
+    real("evictions", 1_000)
     assert "evictions.cache > Cache > dict > list > Page" in ways("evictions", "Page")
 
 
@@ -36,5 +36,5 @@ def test_trees(folder):
     if importlib.util.find_spec("lib2to3") is None:
         print("test_trees: this Python has no lib2to3, so this program is left out")
         return
-    real("trees", "--watch", "lib2to3")
+    real("trees", 3, "--watch", "lib2to3", "--from-use", 70_000)      # behind the making of the grammar
     assert any(way.startswith("trees.trees > dict > Node") for way in ways("trees", "Leaf"))

@@ -97,8 +97,8 @@ def test_from_use(folder):
     lines = "class Thing: pass\nthings = [Thing() for n in range(30)]\nfor thing in things:\n    thing.name = 1\n"
     late = program("late.py", lines)
     recorded("late", "--window", 4, "--from-use", 13, late)
-    assert uses("late") == 31 - 12 and len(rows("late", "Thing")) == 30
-    assert sum(row[5] != "-" for row in rows("late", "Thing")) == 18 + 1, rows("late", "Thing")
+    assert uses("late") == 32 - 12 and len(rows("late", "Thing")) == 30
+    assert sum(row[5] != "-" for row in rows("late", "Thing")) == 20
 
 
 def test_full(folder):
@@ -108,9 +108,10 @@ def test_full(folder):
     ran = recorded("full", "--window", 50, "--operations", 1000, full)
     assert ran.out == "end\n" and "the trace is full" in ran.told, ran
     assert f"stopped behind use {uses('full')}" in ran.told and 700 < len(operations("full")) <= 1000
-    ran = record("--force", "--operations", 10, full)
+    os.mkdir("none")
+    ran = record("--out", "none/full", "--operations", 10, full)
     assert ran.status == 3 and "the trace is full" in ran.told and ran.out == "end\n", ran
-    no_files()
+    no_files("none")
 
 
 def test_limits(folder):
@@ -118,12 +119,13 @@ def test_limits(folder):
     from modelling.traces import LARGEST_INPUT, MOST_OPERATIONS
     from recording import trace
     assert (trace.MOST_BYTES, trace.MOST_OPERATIONS) == (LARGEST_INPUT, MOST_OPERATIONS)
-    for most, fits in ((61, True), (60, False)):
+    empty = len(trace.HEAD + trace.END)
+    for most, fits in ((empty + 20, True), (empty + 19, False)):
         whole = trace.Trace(100, most)
         lines = trace.Lines(whole, 1)
         lines.new(0, 1, 1)
         assert whole.take(lines) == fits
-        assert sum(map(len, whole.texts())) == (61 if fits else 44)
+        assert sum(map(len, whole.texts())) == (empty + 20 if fits else empty)
 
 
 def test_fails(folder):
@@ -183,5 +185,5 @@ def test_progress(folder):
         print("test_progress: there is no command `script`, so no terminal")
         return
     program("small.py", SMALL)
-    ran = subprocess.run(["script", "-qec", f"{RECORD} --window 2 small.py", "/dev/null"], capture_output=True, text=True)
-    assert ran.stdout.count("\rrecord: ") > 2, ran
+    ran = subprocess.run(["script", "-qec", f"{RECORD} --window 2 small.py", "/dev/null"], capture_output=True)
+    assert ran.stdout.count(b"\rrecord: ") > 2, ran

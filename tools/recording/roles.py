@@ -14,6 +14,7 @@ from operator import is_
 NOTHING, NUMBER, TEXT, FUNCTION, BUFFER, OBJECT = range(6)
 LONG = 200                 # characters from which a text is an object of its own; a shorter one counts as words of what holds it
 WORD = 8
+HAS_DICT_BEFORE = 1 << 4 if sys.version_info[:2] == (3, 11) else 0      # a flag of types
 
 _no_objects = (type, types.ModuleType, types.CodeType, types.FrameType, types.TracebackType, type(None), type(...),
                type(NotImplemented), types.GetSetDescriptorType, types.MemberDescriptorType, types.WrapperDescriptorType,
@@ -65,8 +66,21 @@ def kind_of(thing):
 
 def place_of(thing):
     """The file and line at which the thing was made, where `tracemalloc` saw it."""
-    found = tracemalloc.get_object_traceback(thing) if tracemalloc.is_tracing() else None
-    return f"{found[-1].filename}:{found[-1].lineno}" if found else None
+    if not tracemalloc.is_tracing():
+        return None
+    found = tracemalloc.get_object_traceback(thing)
+    if found:
+        return f"{found[-1].filename}:{found[-1].lineno}"
+    lines = lines_before(thing) if type(thing).__flags__ & HAS_DICT_BEFORE else None
+    return "{}:{}".format(*lines[0]) if lines else None
+
+
+def lines_before(thing):
+    """The lines by which an object was made whose variables stand before it: Python 3.11 asks for another address than it noted."""
+    import ctypes
+    ask = ctypes.pythonapi._PyTraceMalloc_GetTraceback
+    ask.restype, ask.argtypes = ctypes.py_object, (ctypes.c_uint, ctypes.c_size_t)
+    return ask(0, id(thing) - 4 * WORD)
 
 
 def is_fixed(thing):

@@ -22,9 +22,9 @@ class Outcome:
 
 def run(program, words, named, recorder):
     """Runs the program with its words. The modules that are named, and those beside it, are watched."""
-    outcome, own = Outcome(), os.getpid()
+    outcome, own, path = Outcome(), os.getpid(), os.path.abspath(program)
     with open(program, "rb") as file:
-        code = compiled(file.read(), program)
+        code = compiled(file.read(), path)
     prepare(program, words, named, recorder)
     watch_threads(outcome)
     os.register_at_fork(after_in_child=lambda: setattr(recorder, "stopped", "a child process is not recorded"))
@@ -32,9 +32,9 @@ def run(program, words, named, recorder):
         signal.signal(number, recorder.on_signal)
     leave_by(recorder, own)
     module = types.ModuleType("__main__")
-    module.__dict__.update(__file__=program, __builtins__=__builtins__, __spec__=None)
+    module.__dict__.update(__file__=path, __builtins__=__builtins__, __spec__=None)
     sys.modules["__main__"] = module
-    recorder.begin_module(module, os.path.splitext(os.path.basename(program))[0])
+    recorder.begin_module(module, os.path.splitext(os.path.basename(path))[0])
     try:
         exec(code, module.__dict__)
         wait_for_threads()
@@ -108,8 +108,11 @@ def tell_error(error, recorder, outcome):
 
 
 def flush():
-    for stream in (sys.stdout, sys.stderr):
+    """Writes what is still to be written. Where nobody reads it any more, it goes nowhere, and nothing is said of that."""
+    for stream, descriptor in ((sys.stdout, 1), (sys.stderr, 2)):
         try:
             stream.flush()
-        except (OSError, ValueError, AttributeError):
-            pass
+        except OSError:
+            os.dup2(os.open(os.devnull, os.O_WRONLY), descriptor)
+        except (ValueError, AttributeError):
+            pass               # the program has closed it, or put something else there

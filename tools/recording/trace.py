@@ -45,7 +45,7 @@ class Lines:
 class Trace:
     def __init__(self, most_operations, most_bytes):
         self.parts, self.rows = [], []
-        self.operations = self.sum = self.uses = 0
+        self.windows = self.operations = self.sum = self.uses = 0
         self.bytes = len(HEAD) + len(END)
         self.most_operations, self.most_bytes = most_operations, most_bytes
 
@@ -54,6 +54,7 @@ class Trace:
         text = "".join(f"{line}\n" for line in lines.lines)
         if self.operations + len(lines.lines) > self.most_operations or self.bytes + len(text) > self.most_bytes:
             return False
+        self.windows += 1
         self.parts.append(text)
         self.rows += lines.rows
         self.operations += len(lines.lines)
