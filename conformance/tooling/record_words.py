@@ -5,6 +5,7 @@ import resource
 import shutil
 import signal
 import subprocess
+import time
 
 from tooling.calls import RECORD, no_files, operations, program, record, recorded, replay, rows, uses
 
@@ -155,7 +156,7 @@ def test_signals(folder):
         ran = subprocess.Popen([RECORD, "--force", "--window", str(window), waits], stdout=subprocess.PIPE, stderr=subprocess.PIPE, text=True)
         assert ran.stdout.readline() == "ready\n"
         while ran.poll() is None and not is_under_way(ran.pid):
-            pass
+            time.sleep(0.02)
         ran.send_signal(number)
         _, told = ran.communicate(timeout=60)
         assert ran.returncode == 0 and "it was interrupted" in told and "Traceback" not in told, told
@@ -165,7 +166,7 @@ def test_signals(folder):
 def is_under_way(process):
     """Whether it has used the processor for a while, as its time in hundredths says."""
     fields = pathlib.Path(f"/proc/{process}/stat").read_text().rpartition(")")[2].split()
-    return int(fields[11]) + int(fields[12]) > 40
+    return int(fields[11]) + int(fields[12]) > 30
 
 
 def test_pipe(folder):

@@ -59,6 +59,7 @@ def go(tree, top, load, visit):
     """Goes the tree: `load(None, None, top, r)` and `load(node, its register, kid, r)` take a step, `visit(node, r)` is told once
     of each node."""
     needs, visited, trees = registers_of(tree, top), set(), [tree]
+    parents = {kid: node for node, kids in tree.items() for kid in kids} if needs[top] > LAST - FIRST + 1 else {}
     for branches in trees:     # it grows while it is gone through
         todo = [(None, None, top, FIRST)]
         while todo:
@@ -76,14 +77,13 @@ def go(tree, top, load, visit):
             if register < LAST:
                 todo += [(node, register, kid, register + 1) for kid in kids[1:]]
             else:
-                trees += [branch_alone(branches, top, node, kid) for kid in kids[1:]]
+                trees += [branch_alone(tree, parents, node, kid) for kid in kids[1:]]
 
 
-def branch_alone(tree, top, node, kid):
+def branch_alone(tree, parents, node, kid):
     """The tree with one branch, and what is behind it."""
-    parents = {below: above for above, branches in tree.items() for below in branches}
     alone, todo = {node: [kid]}, [kid]
-    while node is not top:
+    while node in parents:
         alone[parents[node]] = [node]
         node = parents[node]
     while todo:
