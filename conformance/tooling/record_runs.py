@@ -315,16 +315,40 @@ for n in range(20): kept[0:1]
 def test_same_program(folder):
     """A program does what it does without the recorder, and is asked nothing by it."""
     plain = program("plain.py", PLAIN)
-    alone = subprocess.run([sys.executable, plain, "a", "--b"], capture_output=True, text=True)
+    alone = subprocess.run([sys.executable, plain, "--window", "a"], capture_output=True, text=True)
     assert alone.returncode == 0, alone
     for window in (1, 10):
-        ran = recorded("plain", "--force", "--check-fast", "--window", window, plain, "a", "--b")
+        ran = recorded("plain", "--force", "--check-fast", "--window", window, plain, "--window", "a")
         assert sorted(without_carets(ran.out)) == sorted(without_carets(alone.stdout)), (ran.out, alone.stdout)
 
 
 def without_carets(text):
     """A trace of calls marks columns, which are those of the rewritten program."""
     return [line for line in text.splitlines() if set(line) - set(" ^~")]
+
+
+def test_let_go(folder):
+    """What a frame held, and nobody holds any more, goes by the end of the next window; variables that a program looks at stay."""
+    text = """import weakref
+class Thing: pass
+def walks():
+    thing = Thing()
+    seen = weakref.ref(thing)
+    for n in range(20): thing.x = n
+    thing = None
+    yield seen
+def looks():
+    thing = Thing()
+    here = locals()
+    for n in range(20): thing.x = n
+    return here["thing"] is thing
+generator = walks()
+seen = next(generator)
+other = Thing()
+for n in range(20): other.x = n
+print(seen() is None, looks())
+"""
+    assert recorded("goes", "--window", 3, program("goes.py", text)).out == "True True\n"
 
 
 def test_empty(folder):

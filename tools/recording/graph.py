@@ -12,7 +12,7 @@ import heapq
 from collections import Counter
 from itertools import count
 
-from recording.roles import BUFFER, ROLES, difference, is_fixed, kind_of, own_words, parts, same
+from recording.roles import difference, is_fixed, is_looked_at_singly, kind_of, own_words, parts, referents, same
 
 SHOWN = 4                  # first steps of a way that are told, and last ones
 VARIABLE = "(a variable of a frame)"
@@ -64,7 +64,14 @@ class Change:
         self.changed = {}      # for each such node the kids that are new to it, and those that are none any more
         self.found = []        # the new ones, also those that are reached by nothing that is reached
         self.before = {}       # the parent of each node whose parent changed
-        self.last = []         # what has to live until the window is over, since code of the program runs when it goes
+        self.last = []         # what has to live until the window is over
+
+    def release(self):
+        """Lets go what is not reached any more, by which code of the program may run. Nodes lead to each other in circles, so each of
+        them has to let go its thing."""
+        for node in self.gone:
+            node.thing = node.found = node.block = None
+        self.last.clear()
 
 
 class Graph:
@@ -75,7 +82,7 @@ class Graph:
         for node, depth in zip(self.tops, (0, FAR)):
             node.depth = depth
         self.blocks = {}
-        self.buffers = {}
+        self.singly = {}
 
     # ------------------------------------------------------------ what is different
 
@@ -88,9 +95,10 @@ class Graph:
                     found = gc.get_referents(node.thing)
                     if not same(found, node.found):
                         changed.append((node, found))
-        known = {node for node, _ in changed}
-        changed += [(node, node.found) for node in self.buffers
-                    if node not in known and own_words(node.thing) != node.own]
+        for node in self.singly:
+            found = referents(node.thing)
+            if not same(found, node.found) or own_words(node.thing) != node.own:
+                changed.append((node, found))
         return changed
 
     def by_walking(self, held):
@@ -114,7 +122,7 @@ class Graph:
             thing = todo.pop()
             if id(thing) in walked:
                 continue
-            found = gc.get_referents(thing)
+            found = referents(thing)
             objects, words = parts(thing, found)
             walked[id(thing)] = thing, found, Counter(map(id, objects)), own_words(thing) + words
             todo += objects
@@ -142,7 +150,7 @@ class Graph:
             added += [(node, kid) for kid in more]
             removed += [(node, kid) for kid in fewer]
         for node in change.found:  # it grows while it is gone through
-            self.look_into(node, gc.get_referents(node.thing), change)
+            self.look_into(node, referents(node.thing), change)
             added += [(node, kid) for kid in node.kids]
         Ways(self, change).update(added, removed)
         self.let_go(change)
@@ -179,8 +187,8 @@ class Graph:
         node = self.nodes[id(thing)] = Node(thing, next(self.numbers))
         change.new[node] = None
         change.found.append(node)
-        if ROLES[type(thing)] is BUFFER:
-            self.buffers[node] = None
+        if is_looked_at_singly(thing):
+            self.singly[node] = None
         return node
 
     def let_go(self, change):
@@ -189,14 +197,14 @@ class Graph:
             for kid in node.kids:
                 kid.holders.pop(node, None)
             del self.nodes[id(node.thing)]
-            self.buffers.pop(node, None)
+            self.singly.pop(node, None)
             change.new.pop(node, None)
             change.changed.pop(node, None)
-            change.last.append(node)
 
     def renew_blocks(self, change):
         """What changed now is likely to change again, so it comes to stand together."""
-        moved = [node for node in (*change.changed, *change.new) if node not in self.tops and not is_fixed(node.thing)]
+        apart = {**self.singly, **dict.fromkeys(self.tops)}
+        moved = [node for node in (*change.changed, *change.new) if node not in apart and not is_fixed(node.thing)]
         left = {node: None for node in (*moved, *change.gone)}
         rest = []
         for block in {node.block: None for node in left if node.block}:

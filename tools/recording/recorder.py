@@ -8,7 +8,7 @@ import sys
 from _thread import RLock, interrupt_main
 
 from recording.graph import Block, Change, Graph, Node, Ways
-from recording.rewriting import USE
+from recording.rewriting import USE, Finder, Loader
 from recording.roles import LONG, NOTHING, ROLES, TEXT, hidden
 from recording.roots import Modules, frame_values
 from recording.shelf import Shelf, TooMuch
@@ -16,6 +16,7 @@ from recording.trace import Lines, Trace
 from recording.window import Window
 
 FAST, FULL, BOTH = "fast", "full", "both"
+OWN = Graph, Node, Block, Change, Ways, Modules, Trace, Lines, Window, Shelf, Finder, Loader      # no objects of a program
 INTERRUPTED = "it was interrupted"
 DEPTH = 500                # calls that the end of a window may take beyond what the program is allowed
 
@@ -29,7 +30,8 @@ class Recorder:
         self.modules = Modules()
         self.graph = Graph()
         self.lock = RLock()
-        self.is_busy, self.signal = False, None
+        self.is_busy = self.was_interrupted = False
+        self.signal = None         # the number of one that came while this was busy
         self.stopped = self.failed = None     # why no more is recorded; what went wrong
         self.has_begun = first_use == 1
         self.length = window if self.has_begun else first_use - 1
@@ -37,8 +39,7 @@ class Recorder:
         self.used = {}
         self.use, self.left = self.counter(self.length)
         hidden.update(map(id, (self.use, self.used, self.__dict__)))
-        for kind in (Recorder, Graph, Node, Block, Change, Ways, Modules, Trace, Lines, Window, Shelf):
-            ROLES[kind] = NOTHING
+        ROLES.update(dict.fromkeys((Recorder, *OWN), NOTHING))
 
     def counter(self, first):
         """A function that notes a use and answers the object, and one that answers how many are left in the window, and sets that."""
@@ -85,14 +86,16 @@ class Recorder:
             if self.stopped or (is_last and not self.has_begun):
                 return
             self.has_begun, self.is_busy = True, True
-            rest = self.guarded(used, frame)
+            change = self.guarded(used, frame)
             self.is_busy = False
-        del rest, used             # by which code of the program may run
+        used.clear()
+        if change:
+            change.release()
         if self.signal:
             interrupt_main(self.signal)
 
     def guarded(self, used, frame):
-        """Ends a window. What goes wrong ends the recording and not the program. Answers what is to be let go."""
+        """Ends a window. What goes wrong ends the recording and not the program. Answers what was changed."""
         collects, depth = gc.isenabled(), sys.getrecursionlimit()
         gc.disable()
         sys.setrecursionlimit(depth + DEPTH)
@@ -140,9 +143,10 @@ class Recorder:
         """Records no more."""
         if self.stopped is None:
             self.stopped = why
+            busy, self.is_busy = self.is_busy, True       # a signal waits until the files are written
             self.tell_holders()
             self.on_stop(self)
-            self.graph = None
+            self.graph, self.is_busy = None, busy
 
     def tell_holders(self):
         """Writes down what holds each object that is there."""
@@ -162,7 +166,7 @@ class Recorder:
         if self.is_busy:
             self.signal = number
             return
-        self.signal = None
+        self.signal, self.was_interrupted = None, True
         self.end_window(frame, is_last=True)
         with self.lock:
             self.stop(INTERRUPTED)

@@ -5,6 +5,7 @@ whose list has the same things in it, one by one, is as it was. A few types hold
 are looked at each time.
 """
 import array
+import gc
 import io
 import sys
 import tracemalloc
@@ -19,6 +20,7 @@ HAS_DICT_BEFORE = 1 << 4 if sys.version_info[:2] == (3, 11) else 0      # a flag
 _no_objects = (type, types.ModuleType, types.CodeType, types.FrameType, types.TracebackType, type(None), type(...),
                type(NotImplemented), types.GetSetDescriptorType, types.MemberDescriptorType, types.WrapperDescriptorType,
                types.MethodDescriptorType, types.ClassMethodDescriptorType)
+_suspended = (types.GeneratorType, types.CoroutineType, types.AsyncGeneratorType)
 _numbers = (int, float, complex)
 _buffers = (bytearray, array.array, io.BytesIO, io.StringIO)
 
@@ -46,6 +48,7 @@ class Roles(dict):
 
 ROLES = Roles()
 hidden = set()             # what belongs to this tool and is a thing of the program all the same, by its id
+copies = {}                # the copies of their variables that frames were made to have, by their id
 
 
 def is_object(thing):
@@ -53,6 +56,17 @@ def is_object(thing):
     if role is TEXT:
         return len(thing) >= LONG
     return role > TEXT and id(thing) not in hidden
+
+
+def referents(thing):
+    """What a thing refers to."""
+    found = gc.get_referents(thing)
+    return [other for other in found if id(other) not in copies] if type(thing) in _suspended else found
+
+
+def is_looked_at_singly(thing):
+    """Whether what is known of a thing is not all told by `gc.get_referents`."""
+    return type(thing) in _suspended or ROLES[type(thing)] is BUFFER
 
 
 def same(these, those):

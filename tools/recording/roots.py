@@ -3,9 +3,12 @@ import sys
 from _thread import get_ident
 
 from recording.rewriting import USE
-from recording.roles import is_object, same
+from recording.roles import copies, is_object, same
 
 space_of = type.__dict__["__dict__"].__get__           # the variables of a class, whatever its metaclass answers
+
+ALONE = 3                  # references to what a frame holds, a variable, and a function that counts them
+CO_OPTIMIZED = 1           # the flag of code whose variables stand in no dictionary
 
 
 def is_own(name):
@@ -74,6 +77,7 @@ class Modules:
 def frame_values(top):
     """What the variables of running frames of watched modules hold: of this thread from `top` on,
     and of all others."""
+    forget_copies()
     frames = sys._current_frames()
     frames[get_ident()] = top
     values = [value for first in frames.values() for value in values_of(first)]
@@ -85,4 +89,24 @@ def values_of(frame):
     while frame:
         if USE in frame.f_globals and frame.f_code.co_name != "<module>":
             yield from frame.f_locals.values()
+            empty_copy(frame)
         frame = frame.f_back
+
+
+def empty_copy(frame):
+    """A frame whose variables are asked for keeps a copy of them, which would hold its things for as long as it runs. Where the
+    program has not asked for the copy too, it is emptied, and is no object of the program."""
+    variables = frame.f_locals
+    if frame.f_code.co_flags & CO_OPTIMIZED and type(variables) is dict:
+        if sys.getrefcount(variables) == ALONE + (id(variables) in copies):
+            copies[id(variables)] = variables
+            variables.clear()
+        else:
+            copies.pop(id(variables), None)
+
+
+def forget_copies():
+    """Lets go the copies whose frames are gone."""
+    for identity in list(copies):
+        if sys.getrefcount(copies[identity]) == ALONE - 1:
+            del copies[identity]

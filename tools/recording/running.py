@@ -1,12 +1,12 @@
 """Runs a program as Python does, watched, and tells how it ended."""
 import _thread
+import builtins
 import os
 import signal
 import sys
 import traceback
 import types
 
-from recording.recorder import INTERRUPTED
 from recording.rewriting import Finder, compiled, forget
 
 ENDED = "the program ended"
@@ -32,7 +32,7 @@ def run(program, words, named, recorder):
         signal.signal(number, recorder.on_signal)
     leave_by(recorder, own)
     module = types.ModuleType("__main__")
-    module.__dict__.update(__file__=path, __builtins__=__builtins__, __spec__=None)
+    module.__dict__.update(__file__=path, __builtins__=builtins, __spec__=None)
     sys.modules["__main__"] = module
     recorder.begin_module(module, os.path.splitext(os.path.basename(path))[0])
     try:
@@ -99,7 +99,7 @@ def tell_error(error, recorder, outcome):
             print(code, file=sys.stderr)
     elif isinstance(error, BrokenPipeError):
         outcome.status, outcome.said = 1, "nobody reads what the program writes"
-    elif isinstance(error, KeyboardInterrupt) and recorder.stopped == INTERRUPTED:
+    elif isinstance(error, KeyboardInterrupt) and recorder.was_interrupted:
         outcome.status = 130
     else:
         outcome.status = 1
