@@ -202,18 +202,19 @@ class Graph:
             change.changed.pop(node, None)
 
     def renew_blocks(self, change):
-        """What changed now is likely to change again, so it comes to stand together."""
+        """What changed now is likely to change again, so it comes to stand together. The last block, which is not full, is filled."""
         apart = {**self.singly, **dict.fromkeys(self.tops)}
         moved = [node for node in (*change.changed, *change.new) if node not in apart and not is_fixed(node.thing)]
         left = {node: None for node in (*moved, *change.gone)}
-        rest = []
-        for block in {node.block: None for node in left if node.block}:
+        broken = {node.block: None for node in left if node.block}
+        if self.blocks:
+            broken[next(reversed(self.blocks))] = None
+        rest = [node for block in broken for node in block.nodes if node not in left]
+        for block in broken:
             del self.blocks[block]
-            rest += [node for node in block.nodes if node not in left]
-        for nodes in (rest, moved):
-            for at in range(0, len(nodes), BLOCK):
-                self.blocks[Block(nodes[at:at + BLOCK])] = None
-
+        nodes = rest + moved
+        for at in range(0, len(nodes), BLOCK):
+            self.blocks[Block(nodes[at:at + BLOCK])] = None
 
     def told_ways(self, names):
         """The shortest way to each node in words: from a variable of a module, or else from one of a frame."""
