@@ -36,8 +36,9 @@ def test_help(folder):
 def test_bad_words(folder):
     """Bad words are told with status 1, and nothing is run."""
     small = program("small.py", SMALL)
-    for words in ([], ["--window", "0", small], ["--window", "-1", small], ["--window", "1.5", small], ["--window"], ["--from-use", "0", small],
-                  ["--operations", "1048577", small], ["--operations", "0", small], ["--other", small], ["nowhere.py"], ["."],
+    for words in ([], ["--window", "0", small], ["--window", "-1", small], ["--window", "1.5", small], ["--window"],
+                  ["--from-use", "0", small], ["--operations", "1048577", small], ["--operations", "0", small],
+                  ["--other", small], ["nowhere.py"], ["."],
                   ["--watch", "nowhere", small], ["--watch", "json,json.nowhere", small], ["--watch", "_thread", small],
                   ["--full", "--check-fast", small]):
         ran = record(*words)
@@ -153,7 +154,8 @@ def test_signals(folder):
     """Ctrl-C and SIGTERM end the recording and the program, and what there is is kept, in the midst of windows too."""
     waits = program("waits.py", WAITS)
     for number, window in ((signal.SIGINT, 1500), (signal.SIGTERM, 7), (signal.SIGINT, 1)):
-        ran = subprocess.Popen([RECORD, "--force", "--window", str(window), waits], stdout=subprocess.PIPE, stderr=subprocess.PIPE, text=True)
+        words = [RECORD, "--force", "--window", str(window), waits]
+        ran = subprocess.Popen(words, stdout=subprocess.PIPE, stderr=subprocess.PIPE, text=True)
         assert ran.stdout.readline() == "ready\n"
         while ran.poll() is None and not is_under_way(ran.pid):
             time.sleep(0.02)

@@ -1,9 +1,10 @@
 """The objects of a program and what leads to what, as of the end of each window.
 
-At the end of a window only the objects are looked into of which `gc.get_referents` answers other things than before, one by one by
-identity. That is a question to all objects, but one that C code answers for many at once. What else there is follows: new objects
-are behind references that are new, and objects that are gone are found by a tree of ways. The tree holds each object by one reference. Where such
-a reference goes away, what hung from it is held by another one or is not reached any more, and nothing else has to be looked at.
+At the end of a window only the objects are looked into of which `gc.get_referents` answers other things than before, one by one
+by identity. That is a question to all objects, but one that C code answers for many at once. What else there is follows: new
+objects are behind references that are new, and objects that are gone are found by a tree of ways. The tree holds each object by
+one reference. Where such a reference goes away, what hung from it is held by another one or is not reached any more, and nothing
+else has to be looked at.
 
 The full walk, which asks nothing of windows before, is the reference. Both have to find the same.
 """

@@ -48,7 +48,7 @@ class Recorder:
         def use(thing):
             nonlocal left
             role = roles[type(thing)]
-            if role and (role is not TEXT or len(thing) >= LONG):
+            if role > TEXT or role is TEXT and len(thing) >= LONG:
                 used[id(thing)] = thing
                 left -= 1
                 if left <= 0:
@@ -144,7 +144,8 @@ class Recorder:
         if self.stopped is None:
             self.stopped = why
             busy, self.is_busy = self.is_busy, True       # a signal waits until the files are written
-            self.tell_holders()
+            if not self.failed:
+                self.tell_holders()
             self.on_stop(self)
             self.graph, self.is_busy = None, busy
 

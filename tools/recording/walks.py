@@ -1,9 +1,9 @@
 """Ways to objects through the heap of the trace, and the registers in which they are gone.
 
 Which objects a program came by is not known, only which it used. So a way leads through used objects as long as it can, and from
-there on through the fewest others. All ways of a walk are one tree. A node is left for the last of its branches in its own
-register, so a branch costs a register and a chain none: 2 branches take one, 4 take two, and 2 ** 13 take 13. Where they do not suffice, a
-branch is gone to from the top once more.
+there on by the tree of ways of the graph. All ways of a walk are one tree. A node is left for the last of its branches in its own
+register, so a branch costs a register and a chain none: a tree that branches in two everywhere and is 13 deep takes 14. Where
+the registers do not suffice, a branch is gone to from the top once more.
 """
 FIRST, LAST = 2, 15        # the registers of walks
 

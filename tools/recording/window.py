@@ -2,16 +2,16 @@
 
 Before anything changes, the objects that changed, and those that something will lead to, are walked to and put on a shelf: later
 their ways may be gone. Then each that changed is taken from there and stored into. A new object is made where the first reference
-to it is stored, and filled at once, as deep as registers go, so most objects never come to the shelf. Last, what was used and did not pass a
-register on the way is walked to. Each used object is read back once in the window.
+to it is stored, and filled at once, as deep as registers go, so most objects never come to the shelf. Last, what was used and did not
+pass a register on the way is walked to. Each used object is read back once in the window.
 """
 from recording import walks
 from recording.forms import MOST, Cell, Form, first_shape, next_slots
 from recording.roles import is_fixed, kind_of, place_of
 from recording.shelf import Shelf
 
-BESIDE, INNER, MADE, BOTTOM, LAST = 1, 2, 3, 4, 15   # an object beside; a cell that is no head; a new one; the objects under way
-
+# Registers: an object beside those under way; a cell that is no head; a new cell; the first and the last for objects under way.
+BESIDE, INNER, MADE, BOTTOM, LAST = 1, 2, 3, 4, 15
 TOPS = "(variables of modules)", "(variables of frames)"
 
 
