@@ -145,7 +145,8 @@ main()
     recorded("shop", "--window", 1, program("shop.py", text))
     told = {tuple(row[4:7]): row[9] for row in rows("shop", "Session")}
     ways = sorted(row[9] for row in rows("shop", "Session"))
-    assert ways == ["-", "shop.Shop.items > list > Session"] + ["shop.sessions > dict > Session"] * 9 + ["shop.shop > Shop > Session"], ways
+    held = ["shop.Shop.items > list > Session"] + ["shop.sessions > dict > Session"] * 9 + ["shop.shop > Shop > Session"]
+    assert ways == ["-", *held], ways
     assert ("7", "14", "-") in told and ("8", "-", "16") in told, told     # the object of key 3, and that of key 4
 
 

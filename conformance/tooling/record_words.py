@@ -143,8 +143,10 @@ def test_fails(folder):
 
 def test_leaves(folder):
     """So is one that leaves at once, and a child process writes nothing."""
-    ran = recorded("leaves", program("leaves.py", f"{SMALL}import os\nprint('so')\nos._exit(5)\n"))
+    ran = recorded("leaves", program("leaves.py", f"{SMALL}import os\nprint('so', flush=True)\nos._exit(5)\n"))
     assert ran.out == "so\n" and "os._exit(5)" in ran.told, ran
+    ran = record("--force", "--window", 1, "--operations", 100, "leaves.py")
+    assert ran.status == 0 and "the trace is full" in ran.told, ran
     forks = SMALL + "import os\nif os.fork() == 0:\n    things.append(Thing())\n    raise SystemExit(9)\nprint(os.wait()[1] >> 8)\n"
     assert recorded("forks", program("forks.py", forks)).out == "9\n"
     assert len(rows("forks", "Thing")) == 5

@@ -287,8 +287,8 @@ class Ways:
     def lose(self, nodes):
         """Takes the ways from these nodes, and from what hangs from them, but where another reference is a way.
 
-        The nodes of least depth come first. So when one is looked at, all of less depth that lose their ways have lost them, and a holder
-        of less depth that has its way keeps it.
+        The nodes of least depth come first. So when one is looked at, all of less depth that lose their ways have lost them, and a
+        holder of less depth that has its way keeps it.
         """
         heap = [(node.depth, node.number, node) for node in nodes]
         heapq.heapify(heap)

@@ -13,14 +13,13 @@ ENDED = "the program ended"
 
 
 class Outcome:
-    """How a program ended: its own status, and what is to be said of that."""
+    """How a program ended: its own status, and whether it had threads."""
 
     def __init__(self):
-        self.status, self.said = 0, None
-        self.had_threads = False
+        self.status, self.had_threads = 0, False
 
 
-def run(program, words, named, recorder):
+def run(program, words, named, recorder, status_of_recording):
     """Runs the program with its words. The modules that are named, and those beside it, are watched."""
     outcome, own, path = Outcome(), os.getpid(), os.path.abspath(program)
     with open(program, "rb") as file:
@@ -30,14 +29,16 @@ def run(program, words, named, recorder):
     os.register_at_fork(after_in_child=lambda: setattr(recorder, "stopped", "a child process is not recorded"))
     for number in (signal.SIGINT, signal.SIGTERM):
         signal.signal(number, recorder.on_signal)
-    leave_by(recorder, own)
+    leave_by(recorder, own, status_of_recording)
     module = types.ModuleType("__main__")
     module.__dict__.update(__file__=path, __builtins__=builtins, __spec__=None)
     sys.modules["__main__"] = module
     recorder.begin_module(module, os.path.splitext(os.path.basename(path))[0])
     try:
-        exec(code, module.__dict__)
-        wait_for_threads()
+        try:
+            exec(code, module.__dict__)
+        finally:
+            wait_for_threads()
     except BaseException as error:
         tell_error(error, recorder, outcome)
         error.__traceback__ = None     # it would hold the frames, and so their variables
@@ -77,15 +78,14 @@ def wait_for_threads():
             thread.join()
 
 
-def leave_by(recorder, own):
-    """A program that leaves by `os._exit` is recorded up to there."""
+def leave_by(recorder, own, status_of_recording):
+    """A program that leaves by `os._exit` is recorded up to there, but for a child process."""
     leave = os._exit
 
     def recorded_exit(status):
-        if os.getpid() == own and recorder.stopped is None:
-            flush()
+        if os.getpid() == own:
             recorder.finish(f"the program left by os._exit({status})")
-            leave(3 if recorder.failed else 0)
+            status = status_of_recording()
         leave(status)
     os._exit = recorded_exit
 
@@ -98,12 +98,12 @@ def tell_error(error, recorder, outcome):
         if not isinstance(code, (int, type(None))):
             print(code, file=sys.stderr)
     elif isinstance(error, BrokenPipeError):
-        outcome.status, outcome.said = 1, "nobody reads what the program writes"
+        pass                   # nobody reads what the program writes, and nothing is to be said of that
     elif isinstance(error, KeyboardInterrupt) and recorder.was_interrupted:
         outcome.status = 130
     else:
         outcome.status = 1
-        shown = error.__traceback__.tb_next     # without the frame that runs the program
+        shown = error.__traceback__.tb_next     # without the frame of this module
         traceback.print_exception(type(error), error, shown)
 
 
