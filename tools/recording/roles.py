@@ -1,8 +1,9 @@
 """Which things of a program are objects of its trace, and what is known of one.
 
 All that is known of a thing is told by its type and by the list of what it refers to, as `gc.get_referents` has it. So a thing
-whose list has the same things in it, one by one, is as it was. A few types hold bytes of which no list tells: those are BUFFER, and
-are looked at each time.
+whose list has the same things in it, one by one, is as it was. Two sorts of things are looked at singly each time: those of a few
+types hold bytes of which no list tells, which are BUFFER, and suspended functions may have a copy of their variables that is not
+the program's.
 """
 import array
 import gc
