@@ -1,36 +1,31 @@
 -- Heaps that are built by hand, for tests: a leaf in a register, and a stale box that refers to it, to which a global
 -- refers. In one of them the leaf came back from a disk.
-use Rattle.std.proofs.Common.{◌≡◌, ◌≢◌, ◌⊎◌, inl, inr, ℕ, ◌+◌, ◌<◌, ◌≤◌, zero, suc, List, [], ◌∷◌, length, replicate}
+use Rattle.std.proofs.Common.{◌≡◌, ◌⊎◌, inl, inr, ℕ, ◌+◌, ◌<◌, ◌≤◌, zero, suc, List, [], ◌∷◌, length, replicate}
 use Rattle.std.proofs.Common.{refl}
 use Rattle.std.proofs.Common.{ap, sym, subst, ◌∙◌, arith, lit≤}
 use Rattle.std.specs.Prelude.{◌^◌, Option, None, Some, slice_index}
-use Rattle.std.specs.FinMap.{FinMap, empty, get, get-empty}
-use Rattle.std.specs.Ordering.{nat_cmp}
-use Rattle.std.proofs.lemmas.List.{length-replicate, get_or-replicate}
+use Rattle.std.proofs.lemmas.List.{length-replicate}
 use Rattle.std.proofs.lemmas.Bool.Decides.{eqb_tells}
 use Rattle.melt_word.specs.Words.{cost_of, header_word, home_word, ref_word}
 use Rattle.melt_word.specs.declared.header.Header.{Header}
 use Rattle.melt_word.specs.declared.reference.Ref.TheVariants.{Clean, Stale}
 use Rattle.melt_forward.specs.Forwarding.{Sends, forward_word}
-use Rattle.melt_space.specs.Space.{SpaceWords, SetsWord, word_at}
+use Rattle.melt_space.specs.Space.{word_at}
 use Rattle.melt_scion.specs.State.{State, HeaderAt, ObjectAt, IsFresh}
 use Rattle.melt_scion.specs.Placed.{Maps, HasHome, ForwardMayStand, FormedWords, Formed}
 use Rattle.melt_scion.specs.Names.{name_at, SetsName}
-use Rattle.melt_scion.specs.HomeNames.{NamedHomes}
-use Rattle.melt_scion.specs.Scions.{Scions, empty_table}
-use Rattle.melt_scion.specs.Heaps.{OnDisk, no_homes_on, scion_in, register_in, state_of, AreScionsFor, HasNames}
-use Rattle.melt_scion.specs.Heaps.{NamesMade}
+use Rattle.melt_scion.specs.Scions.{Scions}
+use Rattle.melt_scion.specs.Heaps.{OnDisk, no_homes_on, scion_in, register_in, state_of}
 use Rattle.melt_scion.specs.declared.registers.Registers.{Registers}
-use Rattle.melt_scion.specs.declared.heap.Names as heap
 use Rattle.melt_scion.specs.declared.heap.Heap.{Heap}
 use Rattle.melt_scion.proofs.Geometry.{one_header}
 use Rattle.melt_scion.proofs.SameObjects.{NamesMatch}
-use Rattle.melt_scion.proofs.Tables.{scions_made}
 use Rattle.melt_scion.proofs.Starting.{nothing_at, no_scion_in}
+use Rattle.melt_copy_tests.specs.Built.{IsHeapOf}
+use Rattle.melt_copy_tests.proofs.Built.{word_is, maps_of, heap_maps, heap_tables}
 use Rattle.melt_copy_tests.proofs.Building.{none_at}
 use Rattle.melt_move.specs.Collecting.{IsFormedOn}
-use Rattle.melt_move_tests.proofs.TwoObjects.{HasTwo, leaf_header, box_header, at_leaf, at_box, used, size}
-use Rattle.melt_move_tests.proofs.TwoObjects.{leaf_word, box_word}
+use Rattle.melt_move_tests.proofs.TwoObjects.{leaf_header, box_header, two_words}
 
 -- the third register of one thread holds the leaf
 abbrev pub third_holds_leaf : List Registers
@@ -215,28 +210,24 @@ module _ (maps : Maps) (s : State) (has : HasWords maps s) (names : NamesMatch m
     ];
   }
 
--- Both objects are numbered in their order. A global refers to the box, and some registers hold the leaf.
-pub record AreNumbered (h : Heap) (held : List Registers) (names : List (Option ℕ)) : Type 0 where
+-- The heap was built of the words of both objects, which are numbered in their order. A global refers to the box, and
+-- some registers hold the leaf.
+pub record HasBox (h : Heap) (held : List Registers) (names : List (Option ℕ)) (home : ℕ)
+    (forward : List ℕ) : Type 0 where
+  pub words : List ℕ
+  pub words_are : words ≡ two_words home
+  pub globals : List ℕ
+  pub globals_are : globals ≡ ref_word (Stale 3) ∷ []
+  pub built : IsHeapOf 5 words names globals forward h
   pub unnamed : List (Option ℕ)
   pub names_one : List (Option ℕ)
   pub none : unnamed ≡ replicate 5 None
   pub leaf_named : SetsName unnamed names_one 1 0
   pub box_named : SetsName names_one names 3 1
-  pub homes : NamedHomes
-  pub no_homes : homes.names ≡ empty
-  pub has : h.names ≡ Some (record { addresses = names; homes = homes })
-  pub scions : h.scions ≡ empty_table 2
-  pub globals : h.globals ≡ replicate 1 (ref_word (Stale 3))
   pub registers : (t r : ℕ) → (register_in held t r ≡ 0) ⊎ (register_in held t r ≡ 1)
 
-abbrev maps_of : List (Option ℕ) → Maps
-maps_of names = record { address = name_at names; home = λ k. None }
-
--- Both objects were made in a space, of which the heap has all words but for the home word of the leaf.
-module _ (h : Heap) (held : List Registers) (names : List (Option ℕ)) (is : AreNumbered h held names)
-    (space : SpaceWords) (two : HasTwo space) (size_five : length h.space.list ≡ 5) (used_five : h.space.used ≡ 5)
-    (same : (k : ℕ) → k ≢ 2 → word_at h.space k ≡ word_at space k) (disk : OnDisk) (first_end : 1 ≤ disk.end)
-    (small_end : disk.end ≤ 2 ^ 32) where
+module _ (h : Heap) (held : List Registers) (names : List (Option ℕ)) (home : ℕ) (forward : List ℕ)
+    (is : HasBox h held names home forward) where
   named_at : (k n : ℕ) → name_at names k ≡ Some n → (k ≡ 1) ⊎ (k ≡ 3)
   named_at k n named = elim (eqb_tells k 3) [
     | inl same ↦ inr same.1
@@ -248,93 +239,70 @@ module _ (h : Heap) (held : List Registers) (names : List (Option ℕ)) (is : Ar
     ]
   ]
 
-  words : HasWords (maps_of names) (state_of h held disk)
-  words =
-      let at_three : two.box ≡ 3 = at_box space two in
-      record {
-        size_is = size_five;
-        first_end = first_end;
-        small_end = small_end;
-        scions = λ k. ap (λ (table : Scions). scion_in table k) is.scions ∙ no_scion_in 2 k;
-        free = omega (arith, used_five);
-        named_at = named_at;
-        leaf_named = is.box_named.others 1 (omega arith) ∙ is.leaf_named.here;
-        box_named = is.box_named.here;
-        leaf = same 1 (omega arith) ∙ leaf_word space two;
-        box = same 3 (omega arith) ∙ box_word space two;
-        box_home = same 4 (omega arith) ∙ (two.refers.others 4 (omega arith) ∙ (two.marks.others 4 (omega arith)
-            ∙ two.makes_box.zeros 4 (omega (arith, at_three)) (omega (arith, at_three))));
-        slot = same 5 (omega arith) ∙ two.refers.here;
-        globals = λ g below.
-            let one : length h.globals ≡ 1 = ap length is.globals
-            ∙ length-replicate {A = ℕ} 1 (ref_word (Stale 3)) in
-            ap (λ (gs : List ℕ). slice_index gs g) is.globals
-            ∙ get_or-replicate 1 g (ref_word (Stale 3)) 0 (omega (arith, one, below));
-        registers = is.registers;
-      }
+  stands : (k : ℕ) → k < 5 → word_at h.space (suc k) ≡ slice_index (two_words home) k
+  stands = word_is 5 is.words (two_words home) h.space is.built.space is.words_are
 
-  formed_with : (end : ℕ) → disk.end ≡ end → NamesMatch (maps_of names) (state_of h held disk) → IsFormedOn h held end
-  formed_with end ends match =
-      let count : length names ≡ 5 = is.box_named.size
-      ∙ (is.leaf_named.size ∙ (ap length is.none ∙ length-replicate {A = Option ℕ} 5 None)) in
-      record {
-        maps = maps_of names;
-        disk = disk;
-        end_is = ends;
-        names = subst (λ (o : Option heap.Names). HasNames o h.maps (maps_of names)) (sym is.has)
-            (λ k. refl, λ k. sym (ap (λ (m : FinMap nat_cmp ℕ). get m k) is.no_homes ∙ get-empty {X = ℕ} nat_cmp k));
-        made = record {
-          scions = subst (λ (n : ℕ). AreScionsFor n h.scions) (sym size_five) (scions_made 5 h.scions is.scions);
-          names = subst (NamesMade (length h.space.list)) (sym is.has) (count ∙ sym size_five);
-        };
-        formed = box_formed_words (maps_of names) (state_of h held disk) words match;
-      }
+  module _ (disk : OnDisk) (first_end : 1 ≤ disk.end) (small_end : disk.end ≤ 2 ^ 32) where
+    words : HasWords (maps_of names) (state_of h held disk)
+    words =
+        let used : h.space.used ≡ 5 = is.built.space.used ∙ ap length is.words_are in
+        record {
+          size_is = is.built.space.size;
+          first_end = first_end;
+          small_end = small_end;
+          scions = λ k. ap (λ (table : Scions). scion_in table k) is.built.scions ∙ no_scion_in 2 k;
+          free = omega (arith, used);
+          named_at = named_at;
+          leaf_named = is.box_named.others 1 (omega arith) ∙ is.leaf_named.here;
+          box_named = is.box_named.here;
+          leaf = stands 0 (lit≤ tt);
+          box = stands 2 (lit≤ tt);
+          box_home = stands 3 (lit≤ tt);
+          slot = stands 4 (lit≤ tt);
+          globals = λ g below.
+              let are = is.built.globals_are ∙ is.globals_are in
+              let first : g ≡ 0 = omega (arith, ap length are, below) in
+              ap (λ (gs : List ℕ). slice_index gs g) are ∙ ap (slice_index (ref_word (Stale 3) ∷ [])) first;
+          registers = is.registers;
+        }
+
+    formed_with : (end : ℕ) → disk.end ≡ end → NamesMatch (maps_of names) (state_of h held disk)
+        → IsFormedOn h held end
+    formed_with end ends match =
+        let count : length names ≡ 5 = is.box_named.size
+        ∙ (is.leaf_named.size ∙ (ap length is.none ∙ length-replicate {A = Option ℕ} 5 None)) in
+        record {
+          maps = maps_of names;
+          disk = disk;
+          end_is = ends;
+          names = heap_maps 5 is.words names is.globals forward h is.built;
+          made = heap_tables 5 is.words names is.globals forward h is.built count;
+          formed = box_formed_words (maps_of names) (state_of h held disk) words match;
+        }
 
 -- The leaf has no home.
-pub record HasBox (h : Heap) (held : List Registers) (names : List (Option ℕ)) : Type 0 where
-  pub numbered : AreNumbered h held names
-  pub two : HasTwo h.space
-  pub forward : h.forward ≡ []
-
-pub box_formed : (h : Heap) (held : List Registers) (names : List (Option ℕ)) → HasBox h held names
+pub box_formed : (h : Heap) (held : List Registers) (names : List (Option ℕ)) → HasBox h held names 0 []
     → IsFormedOn h held 1
 box_formed h held names is =
-    let two : HasTwo h.space = is.two in
-    let at_one : two.leaf ≡ 1 = at_leaf h.space two in
-    let at_three : two.box ≡ 3 = at_box h.space two in
-    let leaf_home : word_at h.space 2 ≡ 0 = two.refers.others 2 (omega arith) ∙ (two.marks.others 2 (omega arith)
-    ∙ (two.makes_box.before 2 (omega (arith, at_three))
-    ∙ two.makes_leaf.zeros 2 (omega (arith, at_one)) (omega (arith, at_one)))) in
-    let size_five : length h.space.list ≡ 5 = size h.space two in
-    let used_five : h.space.used ≡ 5 = used h.space two in
-    let same : (k : ℕ) → k ≢ 2 → word_at h.space k ≡ word_at h.space k = λ k other. refl in
     let has : HasWords (maps_of names) (state_of h held no_homes_on) =
-    words h held names is.numbered h.space two size_five used_five same no_homes_on (omega arith) (omega arith) in
-    formed_with h held names is.numbered h.space two size_five used_five same no_homes_on (omega arith) (omega arith) 1
-    refl (none_match (maps_of names) (state_of h held no_homes_on) has leaf_home (ap length is.forward))
+    words h held names 0 [] is no_homes_on (omega arith) (omega arith) in
+    formed_with h held names 0 [] is no_homes_on (omega arith) (omega arith) 1 refl
+    (none_match (maps_of names) (state_of h held no_homes_on) has (stands h held names 0 [] is 1 (lit≤ tt))
+    (ap length is.built.forward_are))
 
 -- a disk with one home of two words, which no one reads
 abbrev one_home_on : OnDisk
 one_home_on = record { end = 3; homes = []; free_homes = []; image = λ k. 0 }
 
 -- The leaf came back from the home 1.
-pub record HasBack (h : Heap) (held : List Registers) (names : List (Option ℕ)) : Type 0 where
-  pub numbered : AreNumbered h held names
-  pub space : SpaceWords
-  pub two : HasTwo space
-  pub homed : SetsWord space h.space 2 (home_word (Some (record { home = 1; scion = 0 })))
-  pub forward : h.forward ≡ forward_word 1 1 ∷ []
-
-pub back_formed : (h : Heap) (held : List Registers) (names : List (Option ℕ)) → HasBack h held names
-    → IsFormedOn h held 3
-back_formed h held names is =
-    let two : HasTwo is.space = is.two in
-    let size_five : length h.space.list ≡ 5 = is.homed.size ∙ size is.space two in
-    let used_five : h.space.used ≡ 5 = is.homed.used ∙ used is.space two in
+pub back_formed : (h : Heap) (held : List Registers) (names : List (Option ℕ)) (home : ℕ) (forward : List ℕ)
+    → HasBox h held names home forward → home ≡ home_word (Some (record { home = 1; scion = 0 }))
+    → forward ≡ forward_word 1 1 ∷ [] → IsFormedOn h held 3
+back_formed h held names home forward is home_is forward_is =
+    let are : h.forward ≡ forward_word 1 1 ∷ [] = is.built.forward_are ∙ forward_is in
     let has : HasWords (maps_of names) (state_of h held one_home_on) =
-    words h held names is.numbered is.space two size_five used_five is.homed.others one_home_on (omega arith)
-    (omega arith) in
-    formed_with h held names is.numbered is.space two size_five used_five is.homed.others one_home_on (omega arith)
-    (omega arith) 3 refl (back_match (maps_of names) (state_of h held one_home_on) has is.homed.here
-    (ap length is.forward)
-    (ap (λ (xs : List ℕ). slice_index xs 0) is.forward) refl)
+    words h held names home forward is one_home_on (omega arith) (omega arith) in
+    formed_with h held names home forward is one_home_on (omega arith) (omega arith) 3 refl
+    (back_match (maps_of names) (state_of h held one_home_on) has
+    (stands h held names home forward is 1 (lit≤ tt) ∙ home_is) (ap length are)
+    (ap (λ (xs : List ℕ). slice_index xs 0) are) refl)

@@ -10,7 +10,7 @@ use Rattle.melt_word.specs.declared.header.Shape.{Shape}
 use Rattle.melt_word.specs.declared.reference.Ref.{Ref}
 use Rattle.melt_word.specs.declared.reference.Ref.TheVariants.{Clean, Stale}
 use Rattle.melt_word.proofs.OneToOne.{same_ref}
-use Rattle.melt_space.specs.Space.{SpaceWords, word_at, IsFresh, Makes, SetsWord}
+use Rattle.melt_space.specs.Space.{SpaceWords, word_at}
 use Rattle.std.proofs.lemmas.List.{ext_get_or}
 use Rattle.melt_scion.specs.State.{State, HeaderAt, ObjectAt, RefersTo, Reached, address_in}
 use Rattle.melt_scion.specs.State.Reached.{in_register, in_global, at_scion, in_slot}
@@ -21,6 +21,8 @@ use Rattle.melt_copy.specs.declared.forwarding.Relocation.{Relocation}
 use Rattle.melt_copy.specs.Moving.{IsWhole, IsRelocation, Relocates, words_in}
 use Rattle.melt_copy.specs.Tracking.{goes, looked_up}
 use Rattle.melt_copy.proofs.Entries.{nothing_behind}
+use Rattle.melt_copy_tests.specs.Built.{IsSpaceOf}
+use Rattle.melt_copy_tests.proofs.Built.{word_is}
 use Rattle.melt_move.specs.declared.choice.Departure.{Departure}
 use Rattle.melt_move.specs.declared.homes.Given.{Given}
 use Rattle.melt_move.specs.declared.decision.Decision.{Decision}
@@ -412,63 +414,10 @@ module _ (space : SpaceWords) (two : HasTwo space) where
           ];
     }
 
-six_words : (list : List ℕ) → slice_index list 0 ≡ 257 → slice_index list 1 ≡ 0 → slice_index list 2 ≡ 16
-    → slice_index list 3 ≡ 259 → slice_index list 4 ≡ 0 → slice_index list 5 ≡ 17 → (i : ℕ) → i < 6
-    → slice_index list i ≡ slice_index two_words i
-six_words list w1 w2 w3 w4 w5 w6 zero below = w1
-six_words list w1 w2 w3 w4 w5 w6 (suc zero) below = w2
-six_words list w1 w2 w3 w4 w5 w6 (suc (suc zero)) below = w3
-six_words list w1 w2 w3 w4 w5 w6 (suc (suc (suc zero))) below = w4
-six_words list w1 w2 w3 w4 w5 w6 (suc (suc (suc (suc zero)))) below = w5
-six_words list w1 w2 w3 w4 w5 w6 (suc (suc (suc (suc (suc zero))))) below = w6
-six_words list w1 w2 w3 w4 w5 w6 (suc (suc (suc (suc (suc (suc i)))))) below = absurd (omega (arith, below))
-
--- a space in which the two objects were made
-pub record BuildsTwo (space : SpaceWords) : Type 0 where
-  pub start : SpaceWords
-  pub one : SpaceWords
-  pub both : SpaceWords
-  pub refers : SpaceWords
-  pub stale : SpaceWords
-  pub at_one : ℕ
-  pub at_two : ℕ
-  pub fresh : IsFresh 6 start
-  pub makes_one : Makes start one one_slot at_one
-  pub makes_two : Makes one both one_slot at_two
-  pub refers_there : SetsWord both refers 3 16
-  pub marks : SetsWord refers stale 4 259
-  pub refers_back : SetsWord stale space 6 17
-
-pub two_built : (space : SpaceWords) → BuildsTwo space → space.list ≡ two_words
-two_built space built =
-    let at_one : built.at_one ≡ 1 = omega (arith, built.makes_one.place, built.fresh.used) in
-    let at_two : built.at_two ≡ 4 =
-    omega (arith, built.makes_two.place, built.makes_one.used, built.fresh.used) in
-    let size : length space.list ≡ 6 =
-    omega (
-      arith,
-      built.refers_back.size,
-      built.marks.size,
-      built.refers_there.size,
-      built.makes_two.size,
-      built.makes_one.size,
-      built.fresh.size,
-    ) in
-    let made : (k : ℕ) → k ≢ 3 → k ≢ 4 → k ≢ 6 → word_at space k ≡ word_at built.both k = λ k three four six.
-    built.refers_back.others k six ∙ (built.marks.others k four ∙ built.refers_there.others k three) in
-    let one : (k : ℕ) → k < 4 → word_at built.both k ≡ word_at built.one k =
-    λ k below. built.makes_two.before k (omega (arith, at_two, below)) in
-    let w1 : word_at space 1 ≡ 257 =
-    made 1 (omega arith) (omega arith) (omega arith) ∙ (one 1 (omega arith)
-    ∙ (ap (word_at built.one) (sym at_one) ∙ built.makes_one.header)) in
-    let w2 : word_at space 2 ≡ 0 =
-    made 2 (omega arith) (omega arith) (omega arith) ∙ (one 2 (omega arith)
-    ∙ built.makes_one.zeros 2 (omega (arith, at_one)) (omega (arith, at_one))) in
-    let w3 : word_at space 3 ≡ 16 =
-    built.refers_back.others 3 (omega arith) ∙ (built.marks.others 3 (omega arith) ∙ built.refers_there.here) in
-    let w4 : word_at space 4 ≡ 259 = built.refers_back.others 4 (omega arith) ∙ built.marks.here in
-    let w5 : word_at space 5 ≡ 0 =
-    made 5 (omega arith) (omega arith) (omega arith)
-    ∙ built.makes_two.zeros 5 (omega (arith, at_two)) (omega (arith, at_two)) in
-    ext_get_or 0 space.list two_words size (λ i below.
-    six_words space.list w1 w2 w3 w4 w5 built.refers_back.here i (omega (arith, below, size)))
+-- a space that was built of these words has no other
+pub two_built : (words : List ℕ) (space : SpaceWords) → IsSpaceOf 6 words space → words ≡ two_words
+    → space.list ≡ two_words
+two_built words space of are =
+    let size : length space.list ≡ 6 = of.size in
+    ext_get_or 0 space.list two_words size
+    (λ i below. word_is 6 words two_words space of are i (omega (arith, below, size)))

@@ -8,7 +8,7 @@ use Rattle.melt_word.specs.Words.{IsAddress, ref_word, header_word, cost_of}
 use Rattle.melt_word.specs.declared.header.Header.{Header}
 use Rattle.melt_word.specs.declared.reference.Ref.TheVariants.{Clean}
 use Rattle.melt_word.proofs.OneToOne.{same_ref}
-use Rattle.melt_space.specs.Space.{SpaceWords, word_at, Makes, SetsWord, IsFresh}
+use Rattle.melt_space.specs.Space.{SpaceWords, word_at}
 use Rattle.melt_scion.specs.State.{State, HeaderAt, ObjectAt, RefersTo, Reached, address_in, in_register}
 use Rattle.melt_scion.specs.State.{in_global, at_scion, in_slot}
 use Rattle.melt_scion.proofs.Geometry.{one_header}
@@ -18,6 +18,8 @@ use Rattle.melt_copy.specs.Moving.{IsWhole, IsRelocation, Relocates, AreHeld, wo
 use Rattle.melt_copy.specs.Reaching.{IsLiveSet}
 use Rattle.melt_copy.specs.Tracking.{looked_up}
 use Rattle.melt_copy.proofs.Entries.{nothing_behind}
+use Rattle.melt_copy_tests.specs.Built.{IsSpaceOf}
+use Rattle.melt_copy_tests.proofs.Built.{word_is}
 use Rattle.melt_move.specs.Plans.{IsSeen}
 
 abbrev pub leaf_header : Header
@@ -50,19 +52,15 @@ two_sent (suc (suc (suc (suc (suc zero))))) = refl
 two_sent (suc (suc (suc (suc (suc (suc a)))))) =
     nothing_behind two_entries (suc (suc (suc (suc (suc (suc a)))))) (omega arith)
 
--- how the words came about
+-- their words, with the home word of the leaf
+abbrev pub two_words : ℕ → List ℕ
+two_words home = header_word leaf_header ∷ home ∷ header_word box_header ∷ 0 ∷ ref_word (Clean 1) ∷ []
+
+-- a space that was built of them
 pub record HasTwo (space : SpaceWords) : Type 0 where
-  pub start : SpaceWords
-  pub one : SpaceWords
-  pub two : SpaceWords
-  pub marked : SpaceWords
-  pub fresh : IsFresh 5 start
-  pub leaf : ℕ
-  pub box : ℕ
-  pub makes_leaf : Makes start one leaf_header.shape leaf
-  pub makes_box : Makes one two box_header.shape box
-  pub marks : SetsWord two marked 3 (header_word box_header)
-  pub refers : SetsWord marked space 5 (ref_word (Clean 1))
+  pub words : List ℕ
+  pub words_are : words ≡ two_words 0
+  pub built : IsSpaceOf 5 words space
 
 module _ (space : SpaceWords) (has : HasTwo space) where
   -- the state in which all registers hold the leaf
@@ -85,38 +83,22 @@ module _ (space : SpaceWords) (has : HasTwo space) where
     register = λ t r. 1;
   }
 
-  pub at_leaf : has.leaf ≡ 1
-  at_leaf = omega (arith, has.makes_leaf.place, has.fresh.used)
+  used : space.used ≡ 5
+  used = has.built.used ∙ ap length has.words_are
 
-  pub used_one : has.one.used ≡ 2
-  used_one = omega (arith, has.makes_leaf.used, has.fresh.used)
+  size : length space.list ≡ 5
+  size = has.built.size
 
-  pub at_box : has.box ≡ 3
-  at_box = omega (arith, has.makes_box.place, used_one)
-
-  pub used : space.used ≡ 5
-  used = omega (arith, has.refers.used, has.marks.used, has.makes_box.used, used_one)
-
-  pub size : length space.list ≡ 5
-  size = has.refers.size
-      ∙ (has.marks.size ∙ (has.makes_box.size ∙ (has.makes_leaf.size ∙ has.fresh.size)))
-
-  pub leaf_word : word_at space 1 ≡ header_word leaf_header
-  leaf_word =
-      has.refers.others 1 (omega arith) ∙ (has.marks.others 1 (omega arith)
-      ∙ (has.makes_box.before 1 (omega (arith, at_box))
-      ∙ subst (λ (a : ℕ). word_at has.one a ≡ header_word leaf_header) at_leaf has.makes_leaf.header))
-
-  pub box_word : word_at space 3 ≡ header_word box_header
-  box_word = has.refers.others 3 (omega arith) ∙ has.marks.here
+  stands : (k : ℕ) → k < 5 → word_at space (suc k) ≡ slice_index (two_words 0) k
+  stands = word_is 5 has.words (two_words 0) space has.built has.words_are
 
   leaf_starts : HeaderAt state 1 leaf_header
   unfolding state
-  leaf_starts = record { in_range = record { refs = lit≤ tt; nums = lit≤ tt }; word = leaf_word }
+  leaf_starts = record { in_range = record { refs = lit≤ tt; nums = lit≤ tt }; word = stands 0 (lit≤ tt) }
 
   box_starts : HeaderAt state 3 box_header
   unfolding state
-  box_starts = record { in_range = record { refs = lit≤ tt; nums = lit≤ tt }; word = box_word }
+  box_starts = record { in_range = record { refs = lit≤ tt; nums = lit≤ tt }; word = stands 2 (lit≤ tt) }
 
   refers_to : (x a : ℕ) → IsAddress x → RefersTo (ref_word (Clean x)) a → a ≡ x
   refers_to x a in_range refers =
@@ -149,7 +131,7 @@ module _ (space : SpaceWords) (has : HasTwo space) where
   slot_word : (from i : ℕ) → (from ≡ 3) × (i ≡ 0) → state.word (from + 2 + i) ≡ ref_word (Clean 1)
   unfolding state
   slot_word from i is =
-      let at : from + 2 + i ≡ 5 = omega (arith, is.0, is.1) in ap (word_at space) at ∙ has.refers.here
+      let at : from + 2 + i ≡ 5 = omega (arith, is.0, is.1) in ap (word_at space) at ∙ stands 4 (lit≤ tt)
 
   two_reached : (a : ℕ) → Reached state a → (a ≡ 1) ⊎ (a ≡ 3)
   unfolding state

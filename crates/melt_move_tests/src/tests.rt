@@ -1,5 +1,4 @@
-use melt_move::*;
-
+mod boxes;
 mod choice;
 mod collect;
 mod given;

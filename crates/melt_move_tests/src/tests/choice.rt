@@ -3,35 +3,25 @@ ghost use Rattle.melt_scion.specs.State.{State};
 ghost use Rattle.melt_copy.specs.Reaching.{IsLiveSet};
 ghost use Rattle.melt_move.specs.Plans.{IsSeen};
 
+use super::boxes::{BOX, LEAF, leaf_and_box};
+use melt_copy::{Forwarding, LiveSet, Relocation};
+use melt_copy_tests::heaps::space_of;
+use melt_model::{NoMemory, Steps};
 use melt_move::choice::{Choice, choose};
 use melt_move::homes::{NewHomes, give_homes};
-use melt_copy::{Forwarding, LiveSet, Relocation};
-use melt_model::{NoMemory, Steps};
+use melt_same::same;
 use melt_space::Space;
-use melt_word::{Header, Ref, Shape, encode_header, encode_ref};
 use std::alloc::Global;
 use std::marker::Brand;
 use std::sync::ledger::{Blank, Ledger};
 use std::test::Fail;
-
-const LEAF: Shape = Shape { refs: 0, nums: 0 };
-
-const BOX: Shape = Shape { refs: 1, nums: 0 };
 
 /// A space with two objects without homes, and what can be reached in it. A leaf at 1 is in a register. A global refers
 /// to a stale box at 3, which refers to the leaf.
 fn two_objects(alloc: Global) -> Result<(Space, LiveSet), Fail>
     ensures { IfOk result (λ made. (s : State) × IsSeen made.0 s × IsLiveSet s made.1) }
 {
-    let mut space = Space::new(alloc, 5)?;
-    let _leaf = space.make(LEAF)?;
-    let _box = space.make(BOX)?;
-    let header = Header {
-        shape: BOX,
-        stale: true,
-    };
-    space.set_word(3, encode_header(header));
-    space.set_word(5, encode_ref(Ref::Clean(1)));
+    let space = space_of(alloc, 5, &leaf_and_box(0))?;
     // The objects at 1 and 3 keep their addresses.
     let mut entries = vec![in alloc; 0; 3]?;
     entries[0] = 3;
@@ -78,6 +68,17 @@ fn plan_uncounted<L: Ledger>(
     Ok((choice, homes))
 }
 
+/// Fails where the leaf does not stay and the box leave, or they do not get homes from word 7 on.
+fn same_plan(choice: &Choice, homes: &NewHomes) -> Result<(), Fail> {
+    let stay = &choice.stay;
+    same((stay.moves.len(), stay.forwarded(1)), (1, 1))?;
+    same(choice.leaving.len(), 1)?;
+    same(choice.leaving.first().map(|d| d.from), Some(3))?;
+    same((homes.first, homes.given.len()), (7, 2))?;
+    same(homes.offsets.as_slice(), [0, 4, 0, 1, 0, 0].as_slice())?;
+    same((homes.counts[2], homes.counts[3]), (1, 1))
+}
+
 #[test]
 fn a_stale_box_leaves_and_gives_a_home_to_the_leaf_that_it_names(
     rt: HostRuntime,
@@ -86,14 +87,5 @@ fn a_stale_box_leaves_and_gives_a_home_to_the_leaf_that_it_names(
     let (space, live) = two_objects(alloc)?;
     let blank = Blank::new(1);
     let (choice, homes) = plan_uncounted::<Brand>(alloc, &space, &live, blank)?;
-    assert_eq!(rt; choice.stay.moves.len(), 1);
-    assert_eq!(rt; choice.stay.forwarded(1), 1);
-    assert_eq!(rt; choice.leaving.len(), 1);
-    assert_eq!(rt; choice.leaving.first().map(|d| d.from), Some(3));
-    assert_eq!(rt; homes.first, 7);
-    assert_eq!(rt; homes.offsets.as_slice(), [0, 4, 0, 1, 0, 0].as_slice());
-    assert_eq!(rt; homes.given.len(), 2);
-    assert_eq!(rt; homes.counts[2], 1);
-    assert_eq!(rt; homes.counts[3], 1);
-    Ok(())
+    same_plan(&choice, &homes)
 }

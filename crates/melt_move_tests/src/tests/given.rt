@@ -3,23 +3,23 @@ ghost use Rattle.melt_move.specs.GivenScions.{AwaitScions};
 ghost use Rattle.melt_move.specs.NamedHomes.{HasSpare};
 ghost use Rattle.melt_move.specs.Plans.{need_for};
 
+use super::boxes::LEAF;
+use melt_copy::{Forwarding, Relocation};
+use melt_disk::StaleSpace;
+use melt_io::{Failed, SteadyDisk};
+use melt_model::Steps;
 use melt_move::choice::Choice;
 use melt_move::commit::name_homes;
 use melt_move::decision::Decision;
 use melt_move::homes::{Given, NewHomes};
 use melt_move::scions::give_scions;
-use melt_copy::{Forwarding, Relocation};
-use melt_disk::StaleSpace;
-use melt_io::{Failed, SteadyDisk};
-use melt_model::Steps;
+use melt_same::same;
 use melt_scion::{AddressNames, GhostMaps, Heap, HomeNames, Names};
 use melt_word::{HomeWord, Shape, encode_home};
 use std::alloc::Global;
 use std::marker::Brand;
 use std::sync::ledger::{Blank, Ledger};
 use std::test::Fail;
-
-const LEAF: Shape = Shape { refs: 0, nums: 0 };
 
 const PAIR: Shape = Shape { refs: 1, nums: 1 };
 
@@ -113,6 +113,17 @@ fn name_uncounted<L: Ledger>(
     name_homes(names, maps, homes, &mut steps);
 }
 
+/// Fails where the leaf has not got its scion and its home word, or the disk not its stub.
+fn same_leaf(heap: &Heap, disk: &SteadyDisk) -> Result<(), Fail> {
+    let scions = [heap.scions.get(1), heap.scions.get(2)];
+    same(scions, [Some((1, 1)), None])?;
+    let word = encode_home(Some(HomeWord { home: 1, scion: 1 }));
+    let words = heap.space.words_at(1, heap.space.words());
+    same(words, [0, word, 0, 0].as_slice())?;
+    same(disk.image.as_slice(), [0, 4_294_967_298, 1].as_slice())?;
+    same(disk.writes, 1)
+}
+
 #[test]
 fn an_object_with_a_new_home_gets_a_scion_and_a_stub(rt: HostRuntime) -> Result<(), Fail> {
     let alloc = rt.alloc();
@@ -120,17 +131,10 @@ fn an_object_with_a_new_home_gets_a_scion_and_a_stub(rt: HostRuntime) -> Result<
     let decision = leaf_stays(alloc)?;
     let mut disk = SteadyDisk::new(alloc);
     let mut space = StaleSpace::new(&mut disk, 9);
-    assert_eq!(rt; space.reserve_home(LEAF), Ok(1));
+    let home = space.reserve_home(LEAF)?;
     let stubs = give_uncounted::<Brand>(&mut heap, &mut space, &decision, Blank::new(1))?;
-    assert_eq!(rt; stubs, 1);
-    assert_eq!(rt; heap.scions.get(1), Some((1, 1)));
-    assert_eq!(rt; heap.scions.get(2), None);
-    assert_eq!(rt; heap.space.words(), 4);
-    let word = encode_home(Some(HomeWord { home: 1, scion: 1 }));
-    assert_eq!(rt; heap.space.word(2), word);
-    assert_eq!(rt; disk.image.as_slice(), [0, 4_294_967_298, 1].as_slice());
-    assert_eq!(rt; disk.writes, 1);
-    Ok(())
+    same((home, stubs), (1, 1))?;
+    same_leaf(&heap, &disk)
 }
 
 #[test]
@@ -154,8 +158,6 @@ fn new_homes_have_the_numbers_of_their_objects(rt: HostRuntime) -> Result<(), Fa
     let new_homes = homes_for(alloc, 5, 1, &[pair, leaf])?;
     name_uncounted::<Brand>(&mut names, &mut maps, &new_homes, Blank::new(1));
     let names = names.ok_or("no names")?;
-    assert_eq!(rt; names.homes.get(5), Some(8));
-    assert_eq!(rt; names.homes.get(9), Some(7));
-    assert_eq!(rt; names.homes.get(7), None);
-    Ok(())
+    let homes = [names.homes.get(5), names.homes.get(9), names.homes.get(7)];
+    same(homes, [Some(8), Some(7), None])
 }

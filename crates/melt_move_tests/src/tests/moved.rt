@@ -3,15 +3,17 @@ ghost use Rattle.melt_scion.specs.State.{State, Reached};
 ghost use Rattle.melt_move.specs.Plans.{HasRoom, IsDecision, need_for};
 ghost use Rattle.melt_move.specs.Staying.{AreSources};
 
+use melt_copy::{Forwarding, Relocation};
+use melt_copy_tests::heaps::space_of;
+use melt_disk::StaleSpace;
+use melt_io::{Failed, SteadyDisk};
+use melt_model::{NoMemory, Steps};
 use melt_move::bodies::write_bodies;
 use melt_move::choice::{Choice, Departure};
 use melt_move::decision::Decision;
 use melt_move::homes::{Given, NewHomes};
 use melt_move::staying::{copy_staying, copy_words};
-use melt_copy::{Forwarding, Relocation};
-use melt_disk::StaleSpace;
-use melt_io::{Failed, SteadyDisk};
-use melt_model::{NoMemory, Steps};
+use melt_same::same;
 use melt_space::Space;
 use melt_word::{Header, Ref, Shape, encode_header, encode_ref};
 use std::alloc::Global;
@@ -42,17 +44,17 @@ fn two_objects(alloc: Global) -> Result<Space, Fail>
     ensures words { IfOk result (λ space. space.list ≡ 257 ∷ 0 ∷ 16 ∷ 259 ∷ 0 ∷ 17 ∷ []) }
     ensures used { IfOk result (λ space. space.used ≡ 6) }
 {
-    let mut space = Space::new(alloc, 6)?;
-    space.make(SHAPE)?;
-    space.make(SHAPE)?;
-    space.set_word(3, encode_ref(Ref::Clean(4)));
-    let header = Header {
+    let held = encode_header(Header {
+        shape: SHAPE,
+        stale: false,
+    });
+    let stale = encode_header(Header {
         shape: SHAPE,
         stale: true,
-    };
-    space.set_word(4, encode_header(header));
-    space.set_word(6, encode_ref(Ref::Stale(4)));
-    Ok(space)
+    });
+    let there = encode_ref(Ref::Clean(4));
+    let back = encode_ref(Ref::Stale(4));
+    Ok(space_of(alloc, 6, &[held, 0, there, stale, 0, back])?)
 }
 
 /// What is decided where a register holds the first of them: it stays, and the second leaves. Its home is word 1.
@@ -129,23 +131,30 @@ fn write_uncounted<L: Ledger>(
     write_bodies(disk, decision, space, &mut steps)
 }
 
+/// Copies the words of two references, and what stays of `two_objects`, as `second_leaves` decides.
+fn copy_two(alloc: Global, decision: &Decision, space: &Space) -> Result<(), Fail>
+    requires room { HasRoom decision.now }
+    requires sources { (s : State) × AreSources space.now s decision.now (4 ∷ 16 ∷ []) }
+{
+    let words = [4, 16];
+    let (references, objects) = copy_uncounted::<Brand>(
+        alloc,
+        decision,
+        space,
+        &words,
+        Blank::new(1),
+    )?;
+    same(references.as_slice(), [5, 7].as_slice())?;
+    same(objects.as_slice(), [257, 0, 7].as_slice())
+}
+
 #[test]
 fn references_to_what_leaves_become_homes(rt: HostRuntime) -> Result<(), Fail> {
     let alloc = rt.alloc();
     let space = two_objects(alloc)?;
     let decision = second_leaves(alloc, &space)?;
-    assert_eq!(rt; decision.home_of(&space, 4), 1);
-    let words = [4, 16];
-    let (references, objects) = copy_uncounted::<Brand>(
-        alloc,
-        &decision,
-        &space,
-        &words,
-        Blank::new(1),
-    )?;
-    assert_eq!(rt; references.as_slice(), [5, 7].as_slice());
-    assert_eq!(rt; objects.as_slice(), [257, 0, 7].as_slice());
-    Ok(())
+    same(decision.home_of(&space, 4), 1)?;
+    copy_two(alloc, &decision, &space)
 }
 
 #[test]
@@ -155,8 +164,8 @@ fn what_leaves_is_written_with_homes(rt: HostRuntime) -> Result<(), Fail> {
     let decision = second_leaves(alloc, &space)?;
     let mut disk = SteadyDisk::new(alloc);
     let mut stale = StaleSpace::new(&mut disk, 9);
-    assert_eq!(rt; stale.reserve_home(SHAPE), Ok(1));
+    let home = stale.reserve_home(SHAPE)?;
     write_uncounted::<Brand>(&mut stale, &decision, &space, Blank::new(1))?;
-    assert_eq!(rt; disk.image.as_slice(), [0, 4_294_967_553, 0, 7].as_slice());
-    Ok(())
+    same(home, 1)?;
+    same(disk.image.as_slice(), [0, 4_294_967_553, 0, 7].as_slice())
 }

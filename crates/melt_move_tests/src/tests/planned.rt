@@ -1,25 +1,21 @@
 ghost use Rattle.std.specs.Prelude.{◌≡◌, ◌<◌, IfOk};
 ghost use Rattle.melt_move.specs.Collecting.{IsFormedOn};
 
-use melt_move::collect::MoveRefusal;
-use melt_move::planned::{Plan, collect_planned};
+use super::boxes::{LEAF, leaf_and_box, leaf_held};
+use melt_copy_tests::heaps::{heap_of, used_words};
 use melt_disk::{DiskFull, StaleSpace};
 use melt_forward::pack;
 use melt_io::{MemDisk, StaleDisk, SteadyDisk};
 use melt_model::{Journal, Phase, Steps};
-use melt_scion::{
-    AddressNames, Forwards, GhostMaps, Globals, Heap, HomeNames, Names, Registers, ScionTable,
-};
-use melt_space::Space;
-use melt_word::{Header, HomeWord, Ref, Shape, encode_header, encode_home, encode_ref};
+use melt_move::collect::MoveRefusal;
+use melt_move::planned::{Plan, collect_planned};
+use melt_same::same;
+use melt_scion::{AddressNames, Heap, Registers};
+use melt_word::{HomeWord, Ref, encode_home, encode_ref};
 use std::alloc::Global;
 use std::marker::Brand;
 use std::sync::ledger::{Blank, Ledger};
 use std::test::Fail;
-
-const LEAF: Shape = Shape { refs: 0, nums: 0 };
-
-const BOX: Shape = Shape { refs: 1, nums: 0 };
 
 /// Every phase but Inactive is planned as soon as it may be.
 const EAGER: Plan = Plan {
@@ -33,36 +29,13 @@ const EAGER: Plan = Plan {
 fn box_and_leaf_back(alloc: Global) -> Result<(Heap, [Registers; 1]), Fail>
     ensures { IfOk result (λ made. IsFormedOn made.0 made.1 3) }
 {
-    let mut space = Space::new(alloc, 5)?;
-    let _leaf = space.make(LEAF)?;
-    let _box = space.make(BOX)?;
-    let header = Header {
-        shape: BOX,
-        stale: true,
-    };
-    space.set_word(3, encode_header(header));
-    space.set_word(5, encode_ref(Ref::Clean(1)));
-    space.set_word(2, encode_home(Some(HomeWord { home: 1, scion: 0 })));
+    let words = leaf_and_box(encode_home(Some(HomeWord { home: 1, scion: 0 })));
+    let global = encode_ref(Ref::Stale(3));
     let mut addresses = AddressNames::new(alloc, 5)?;
     addresses.set(1, 0);
     addresses.set(3, 1);
-    let globals = vec![in alloc; encode_ref(Ref::Stale(3)); 1]?;
-    let forward = vec![in alloc; pack(1, 1)]?;
-    let scions = ScionTable::new(alloc, 2)?;
-    let heap = Heap {
-        space,
-        scions,
-        globals: Globals { items: globals },
-        forward: Forwards { items: forward },
-        names: Some(Names {
-            addresses,
-            homes: HomeNames::new(alloc),
-        }),
-        maps: GhostMaps::none(),
-    };
-    let mut regs = [0; 16];
-    regs[2] = 1;
-    Ok((heap, [Registers { regs }]))
+    let heap = heap_of(alloc, 5, &words, addresses, &[global], &[pack(1, 1)])?;
+    Ok((heap, leaf_held()))
 }
 
 /// Makes a planned collection, and counts no steps.
@@ -85,30 +58,33 @@ fn collect_uncounted<D: StaleDisk, L: Ledger>(
     collect_planned(alloc, heap, held, disk, plan, force, &mut steps)
 }
 
-#[test]
-fn the_leaf_is_settled_once_and_the_box_leaves_in_the_third_phase(
-    rt: HostRuntime,
-) -> Result<(), Fail> {
-    let alloc = rt.alloc();
+/// Makes a planned collection.
+fn collect<D: StaleDisk>(
+    alloc: Global,
+    heap: Heap,
+    held: &mut [Registers],
+    disk: &mut StaleSpace<'_, D>,
+    plan: &mut Plan,
+    force: bool,
+) -> Result<(Heap, Journal), MoveRefusal>
+    requires { IsFormedOn heap held.old disk.old.end }
+    ensures { IfOk result (λ done. IsFormedOn done.0 held.new disk.new.end) }
+{
+    collect_uncounted::<D, Brand>(alloc, heap, held, disk, plan, force, Blank::new(1))
+}
+
+/// Collects the heap of `box_and_leaf_back` three times, once in each phase.
+fn three_phases(alloc: Global, disk: &mut SteadyDisk) -> Result<Heap, Fail> {
     let (mut heap, mut held) = box_and_leaf_back(alloc)?;
-    let mut disk = SteadyDisk::new(alloc);
-    let mut stale = StaleSpace::new(&mut disk, 6);
-    assert_eq!(rt; stale.reserve_home(LEAF), Ok(1));
+    let mut stale = StaleSpace::new(disk, 6);
+    let home = stale.reserve_home(LEAF)?;
     let mut plan = EAGER;
     for (phase, live, bodies, stubs, end, next) in [
         (Phase::Inactive, 5, 0, 1, 3, Phase::Mark),
         (Phase::Mark, 5, 0, 0, 3, Phase::Move),
         (Phase::Move, 2, 1, 0, 6, Phase::Move),
     ] {
-        let made = collect_uncounted::<SteadyDisk, Brand>(
-            alloc,
-            heap,
-            &mut held,
-            &mut stale,
-            &mut plan,
-            false,
-            Blank::new(1),
-        );
+        let made = collect(alloc, heap, &mut held, &mut stale, &mut plan, false);
         let Ok((collected, journal)) = made else {
             return Err("refused".into());
         };
@@ -121,20 +97,31 @@ fn the_leaf_is_settled_once_and_the_box_leaves_in_the_third_phase(
             stubs,
             end,
         };
-        assert_eq!(rt; journal, wanted);
-        assert_eq!(rt; plan.next, next);
-        assert_eq!(rt; stale.end(), end);
+        same((journal, plan.next, stale.end()), (wanted, next, end))?;
     }
-    assert_eq!(rt;
-        heap.globals.items.as_slice(),
-        [encode_ref(Ref::Disk(3))].as_slice()
-    );
-    assert_eq!(rt; heap.scions.get(1), Some((1, 1)));
+    same(home, 1)?;
+    Ok(heap)
+}
+
+/// Fails where the box has not left, or the disk is not as it is to be then.
+fn same_leaf(heap: &Heap, disk: &SteadyDisk) -> Result<(), Fail> {
+    let globals = [encode_ref(Ref::Disk(3))];
+    same(heap.globals.items.as_slice(), globals.as_slice())?;
+    same(heap.scions.get(1), Some((1, 1)))?;
     // The Stub of the leaf, and the Body of the box, whose slot has the home of the leaf.
     let image = [0, 4_294_967_298, 1, 12_884_902_145, 0, 7];
-    assert_eq!(rt; disk.image.as_slice(), image.as_slice());
-    assert_eq!(rt; disk.writes, 2);
-    Ok(())
+    same(disk.image.as_slice(), image.as_slice())?;
+    same(disk.writes, 2)
+}
+
+#[test]
+fn the_leaf_is_settled_once_and_the_box_leaves_in_the_third_phase(
+    rt: HostRuntime,
+) -> Result<(), Fail> {
+    let alloc = rt.alloc();
+    let mut disk = SteadyDisk::new(alloc);
+    let heap = three_phases(alloc, &mut disk)?;
+    same_leaf(&heap, &disk)
 }
 
 #[test]
@@ -143,17 +130,9 @@ fn a_forced_collection_is_a_move_and_counts_what_it_settled(rt: HostRuntime) -> 
     let (heap, mut held) = box_and_leaf_back(alloc)?;
     let mut disk = SteadyDisk::new(alloc);
     let mut stale = StaleSpace::new(&mut disk, 6);
-    assert_eq!(rt; stale.reserve_home(LEAF), Ok(1));
+    let home = stale.reserve_home(LEAF)?;
     let mut plan = EAGER;
-    let made = collect_uncounted::<SteadyDisk, Brand>(
-        alloc,
-        heap,
-        &mut held,
-        &mut stale,
-        &mut plan,
-        true,
-        Blank::new(1),
-    );
+    let made = collect(alloc, heap, &mut held, &mut stale, &mut plan, true);
     let Ok((_heap, journal)) = made else {
         return Err("refused".into());
     };
@@ -165,10 +144,8 @@ fn a_forced_collection_is_a_move_and_counts_what_it_settled(rt: HostRuntime) -> 
         stubs: 1,
         end: 6,
     };
-    assert_eq!(rt; journal, wanted);
-    assert_eq!(rt; plan.next, Phase::Move);
-    assert_eq!(rt; disk.writes, 2);
-    Ok(())
+    let got = (home, journal, plan.next, disk.writes);
+    same(got, (1, wanted, Phase::Move, 2))
 }
 
 #[test]
@@ -178,22 +155,23 @@ fn a_failing_stub_gives_the_heap_up_and_leaves_the_plan(rt: HostRuntime) -> Resu
     let mut disk = MemDisk::new(alloc);
     disk.fail_writes.push(1)?;
     let mut stale = StaleSpace::new(&mut disk, 6);
-    assert_eq!(rt; stale.reserve_home(LEAF), Ok(1));
+    let home = stale.reserve_home(LEAF)?;
     let mut plan = EAGER;
-    let made = collect_uncounted::<MemDisk, Brand>(
-        alloc,
-        heap,
-        &mut held,
-        &mut stale,
-        &mut plan,
-        false,
-        Blank::new(1),
-    );
-    assert!(rt; matches!(made, Err(MoveRefusal::DiskFault)));
-    assert_eq!(rt; held, [Registers { regs: [0; 16] }]);
-    assert_eq!(rt; plan, EAGER);
-    assert_eq!(rt; disk.writes, 1);
-    Ok(())
+    let made = collect(alloc, heap, &mut held, &mut stale, &mut plan, false);
+    let Err(MoveRefusal::DiskFault) = made else {
+        return Err("no write failed".into());
+    };
+    same(held, [Registers { regs: [0; 16] }])?;
+    same((home, plan, disk.writes), (1, EAGER, 1))
+}
+
+/// Fails where the leaf is not settled, as the disk is to tell, or the box has not stayed.
+fn same_both(heap: &Heap, disk: &SteadyDisk) -> Result<(), Fail> {
+    let words = leaf_and_box(encode_home(Some(HomeWord { home: 1, scion: 1 })));
+    same(used_words(&heap.space), words.as_slice())?;
+    same(heap.scions.get(1), Some((1, 1)))?;
+    same(heap.forward.items.as_slice(), [0].as_slice())?;
+    same(disk.image.as_slice(), [0, 4_294_967_298, 1].as_slice())
 }
 
 #[test]
@@ -202,17 +180,9 @@ fn a_disk_without_room_leaves_a_settled_heap_and_the_plan(rt: HostRuntime) -> Re
     let (heap, mut held) = box_and_leaf_back(alloc)?;
     let mut disk = SteadyDisk::new(alloc);
     let mut stale = StaleSpace::new(&mut disk, 5);
-    assert_eq!(rt; stale.reserve_home(LEAF), Ok(1));
+    let home = stale.reserve_home(LEAF)?;
     let mut plan = EAGER;
-    let made = collect_uncounted::<SteadyDisk, Brand>(
-        alloc,
-        heap,
-        &mut held,
-        &mut stale,
-        &mut plan,
-        true,
-        Blank::new(1),
-    );
+    let made = collect(alloc, heap, &mut held, &mut stale, &mut plan, true);
     let Err(MoveRefusal::DiskFull { heap, full }) = made else {
         return Err("not refused for want of room".into());
     };
@@ -221,14 +191,6 @@ fn a_disk_without_room_leaves_a_settled_heap_and_the_plan(rt: HostRuntime) -> Re
         need: 3,
         limit: 5,
     };
-    assert_eq!(rt; full, wanted);
-    assert_eq!(rt; plan, EAGER);
-    assert_eq!(rt; held[0].regs[2], 1);
-    assert_eq!(rt; heap.space.used(), 5);
-    let home = HomeWord { home: 1, scion: 1 };
-    assert_eq!(rt; heap.space.word(2), encode_home(Some(home)));
-    assert_eq!(rt; heap.scions.get(1), Some((1, 1)));
-    assert_eq!(rt; heap.forward.items.as_slice(), [0].as_slice());
-    assert_eq!(rt; disk.image.as_slice(), [0, 4_294_967_298, 1].as_slice());
-    Ok(())
+    same((home, full, plan, held), (1, wanted, EAGER, leaf_held()))?;
+    same_both(&heap, &disk)
 }

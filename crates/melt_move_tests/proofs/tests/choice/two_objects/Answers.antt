@@ -1,24 +1,15 @@
-use Rattle.std.proofs.Common.{◌∙◌, ◌++◌, ◌∷◌, [], ℕ, List, refl, ap, subst}
+use Rattle.std.proofs.Common.{◌∙◌, ◌++◌, ◌∷◌, [], ℕ, List, refl, ap}
 use Rattle.std.specs.Prelude.{slice_set}
-use Rattle.melt_space.specs.Space.{SetsWord}
 use Rattle.melt_copy.specs.declared.forwarding.Relocation.{Relocation}
 use Rattle.melt_move_tests.proofs.TwoObjects.{two_live, leaf_move, box_move}
 use Rattle.melt_move_tests.proofs.tests.choice.two_objects.Goals as goal
 
 pub returns : goal.returns
 returns c =
-    two_live c.set_word-2.new.self (record {
-      start = c.in_ok-space.space;
-      one = c.make.new.self;
-      two = c.make-2.new.self;
-      marked = c.set_word.new.self;
-      fresh = c.in_ok-space.ensures;
-      leaf = c.in_ok-_leaf._leaf;
-      box = c.in_ok-_box._box;
-      makes_leaf = c.in_ok-_leaf.ensures.made;
-      makes_box = c.in_ok-_box.ensures.made;
-      marks = subst (SetsWord c.make-2.new.self c.set_word.new.self 3) c.encode_header.ensures c.set_word.ensures;
-      refers = subst (SetsWord c.set_word.new.self c.set_word-2.new.self 5) c.encode_ref.ensures c.set_word-2.ensures;
+    two_live c.in_ok-space.space (record {
+      words = _;
+      words_are = c.leaf_and_box.ensures;
+      built = c.in_ok-space.ensures;
     })
     _ (ap (λ (xs : List ℕ). slice_set (slice_set xs 0 3) 1 7)
     (c.in_ok-entries.ensures.items_if_clones_equal (λ y is. is)))

@@ -1,51 +1,21 @@
-use Rattle.std.proofs.Common.{◌∙◌, ℕ, [], ◌∷◌, refl, subst, ap, replicate}
-use Rattle.std.specs.Prelude.{Some}
-use Rattle.melt_space.specs.Space.{SetsWord}
-use Rattle.melt_scion.specs.declared.heap.Heap.{Heap}
-use Rattle.melt_move_tests.proofs.BuildingBox.{third_holds_leaf, back_formed, leaf_held}
+use Rattle.std.proofs.Common.{◌∷◌, [], ◌≡◌, ◌⊎◌, ℕ, List, sym, subst, ap}
+use Rattle.melt_scion.specs.Heaps.{register_in}
+use Rattle.melt_scion.specs.declared.registers.Registers.{Registers}
+use Rattle.melt_move_tests.proofs.BuildingBox.{back_formed, leaf_held}
 use Rattle.melt_move_tests.proofs.tests.planned.box_and_leaf_back.Goals as goal
 
 pub returns : goal.returns
-returns c =
-    let made : Heap = record {
-      space = c.set_word-3.new.self;
-      scions = c.in_ok-scions.scions;
-      globals = c.in_ok-globals.globals.items;
-      forward = c.in_ok-forward.forward.items;
-      names = Some (record { addresses = c.set-2.new.self; homes = c.new-4.result });
-      maps = c.none.result;
-    } in
-    back_formed made third_holds_leaf c.set-2.new.self (record {
-      numbered = record {
-        unnamed = c.in_ok-addresses.addresses;
-        names_one = c.set.new.self;
-        none = c.in_ok-addresses.ensures;
-        leaf_named = c.set.ensures;
-        box_named = c.set-2.ensures;
-        homes = c.new-4.result;
-        no_homes = c.new-4.ensures.names;
-        has = refl;
-        scions = c.in_ok-scions.ensures.empty;
-        globals = c.in_ok-globals.ensures.items_if_clones_equal (λ y is. is)
-            ∙ ap (λ (word : ℕ). replicate 1 word) c.encode_ref-2.ensures;
-        registers = leaf_held;
-      };
-      space = c.set_word-2.new.self;
-      two = record {
-        start = c.in_ok-space.space;
-        one = c.make.new.self;
-        two = c.make-2.new.self;
-        marked = c.set_word.new.self;
-        fresh = c.in_ok-space.ensures;
-        leaf = c.in_ok-_leaf._leaf;
-        box = c.in_ok-_box._box;
-        makes_leaf = c.in_ok-_leaf.ensures.made;
-        makes_box = c.in_ok-_box.ensures.made;
-        marks = subst (SetsWord c.make-2.new.self c.set_word.new.self 3) c.encode_header.ensures c.set_word.ensures;
-        refers = subst (SetsWord c.set_word.new.self c.set_word-2.new.self 5) c.encode_ref.ensures
-            c.set_word-2.ensures;
-      };
-      homed = subst (SetsWord c.set_word-2.new.self c.set_word-3.new.self 2) c.encode_home.ensures
-          c.set_word-3.ensures;
-      forward = c.in_ok-forward.ensures.items ∙ ap (λ (word : ℕ). word ∷ []) c.pack.ensures;
-    })
+returns c = back_formed c.in_ok-heap.heap c.leaf_held.result c.set-2.new.self c.encode_home.result _ (record {
+  words = _;
+  words_are = c.leaf_and_box-words.ensures;
+  globals = _;
+  globals_are = ap (λ (word : ℕ). word ∷ []) c.encode_ref-global.ensures;
+  built = c.in_ok-heap.ensures;
+  unnamed = c.in_ok-addresses.addresses;
+  names_one = c.set.new.self;
+  none = c.in_ok-addresses.ensures;
+  leaf_named = c.set.ensures;
+  box_named = c.set-2.ensures;
+  registers = λ t r. subst (λ (held : List Registers). (register_in held t r ≡ 0) ⊎ (register_in held t r ≡ 1))
+      (sym c.leaf_held.ensures) (leaf_held t r);
+}) c.encode_home.ensures (ap (λ (word : ℕ). word ∷ []) c.pack.ensures)

@@ -1,4 +1,4 @@
-use Rattle.melt_move_tests.proofs.tests.collect.numbers_go_with_what_leaves_and_what_stays.Given as goal
+use Rattle.melt_move_tests.proofs.tests.collect.collect.Given as goal
 
 abbrev pub ghosts-collect_uncounted : goal.ghosts-collect_uncounted
 ghosts-collect_uncounted g a = record { name = a.blank.name; parts = a.blank.parts }
