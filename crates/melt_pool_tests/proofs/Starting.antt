@@ -19,10 +19,10 @@ use Rattle.melt_safepoint.specs.declared.thread.ThreadState.{ThreadState}
 use Rattle.melt_pool.specs.Epochs.{Rests}
 use Rattle.melt_pool.specs.Firsts.{LacksRoom}
 use Rattle.melt_pool.specs.Programs.{IsToldBy, ProgramStands}
-use Rattle.melt_pool_tests.specs.Tests.{AllNew, IsNew}
 use Rattle.melt_pool.specs.declared.worker.Worker.{Worker}
 use Rattle.melt_pool.proofs.Running.{brings_one}
 use Rattle.melt_pool.proofs.Working.{program_stays}
+use Rattle.melt_pool_tests.specs.Tests.{AllNew, IsNew}
 
 -- all its operations are to come
 new_program : (script : Script) (t : ℕ) (s : ThreadState) → IsNewThread (operations script t) script.globals s

@@ -5,12 +5,13 @@ ghost use Rattle.melt_trace.specs.Script.{Script};
 ghost use Rattle.melt_pool.specs.Firsts.{LacksAt, LacksRoom};
 ghost use Rattle.melt_pool_tests.specs.Tests.{AllNew, IsNew};
 
-use melt_pool::*;
 use melt_epoch::Mutator;
 use melt_io::{Failed, Gate, RecordReader};
 use melt_model::{Ghost, Op, Reply, ThreadEnd};
+use melt_pool::{Paused, Worker, go_on};
 use melt_rule::Pass;
 use melt_safepoint::{Mode, ThreadState};
+use melt_same::same;
 use melt_scion::Heap;
 use melt_trace::{Trace, parse};
 use std::alloc::Global;
@@ -196,23 +197,6 @@ fn run_on<R: Abort + Threads + Sync, G: Gate + Sync>(
     (after.heap.space.used(), lacked)
 }
 
-/// Compares the replies that a thread has got, and what it does next.
-fn expect<R: Abort>(
-    rt: &R,
-    mutator: &mut Mutator<Worker<'_, NoDisk>>,
-    replies: &[Reply],
-    mode: Mode,
-) {
-    let Some(mut worker) = mutator.take_reader() else {
-        panic!(rt; "no worker");
-    };
-    let Some(state) = worker.state.take() else {
-        panic!(rt; "no thread");
-    };
-    assert_eq!(rt; state.replies.as_slice(), replies);
-    assert_eq!(rt; state.mode, mode);
-}
-
 /// What a thread comes to in an epoch.
 #[derive(Clone, Copy)]
 struct Wanted<'a> {
@@ -220,6 +204,18 @@ struct Wanted<'a> {
     mode: Mode,
     /// How many operations the gate is told of.
     told: u64,
+}
+
+/// Compares the replies that a thread has got, and what it does next.
+fn expect(
+    mutator: &mut Mutator<Worker<'_, NoDisk>>,
+    replies: &[Reply],
+    mode: Mode,
+) -> Result<(), Fail> {
+    let mut worker = mutator.take_reader().ok_or("no worker")?;
+    let state = worker.state.take().ok_or("no thread")?;
+    same(state.replies.as_slice(), replies)?;
+    same(state.mode, mode)
 }
 
 /// Runs two threads through an epoch, and compares what they come to. Answers the words in use behind it, and how many
@@ -242,12 +238,10 @@ fn expect_epoch<R: Abort + Threads + Sync>(
     let gate = Counts::new(u64::from(first.is_some()));
     let came = run_on(rt, alloc, heap, mutators, every, first, &gate);
     for t in 0..2 {
-        expect(rt, &mut mutators[t], wanted[t].replies, wanted[t].mode);
-        let told = gate.told[t].load(Ordering::SeqCst);
-        assert_eq!(rt; told, wanted[t].told);
+        expect(&mut mutators[t], wanted[t].replies, wanted[t].mode)?;
+        same(gate.told[t].load(Ordering::SeqCst), wanted[t].told)?;
     }
-    let out_of_turn = gate.out_of_turn.load(Ordering::SeqCst);
-    assert_eq!(rt; out_of_turn, 0);
+    same(gate.out_of_turn.load(Ordering::SeqCst), 0)?;
     Ok(came)
 }
 
@@ -261,11 +255,10 @@ fn expect_both<R: Abort + Threads + Sync>(
     wanted: [Wanted<'_>; 2],
 ) -> Result<u32, Fail> {
     let trace = parse(alloc, text)?;
-    let (threads, globals) = (trace.threads(), trace.globals());
-    assert!(rt; threads == 2 && globals == 1);
+    same((trace.threads(), trace.globals()), (2, 1))?;
     let mut mutators = two_mutators(rt, alloc, &trace);
     let (used, lacked) = expect_epoch(rt, alloc, &mut mutators, every, None, wanted)?;
-    assert_eq!(rt; lacked, None);
+    same(lacked, None)?;
     Ok(used)
 }
 
@@ -278,8 +271,7 @@ fn expect_first<R: Abort + Threads + Sync>(
     wanted: [Wanted<'_>; 2],
 ) -> Result<(u32, Option<u32>), Fail> {
     let trace = parse(alloc, text)?;
-    let (threads, globals) = (trace.threads(), trace.globals());
-    assert!(rt; threads == 2 && globals == 1);
+    same((trace.threads(), trace.globals()), (2, 1))?;
     let mut mutators = first_refused(rt, alloc, &trace);
     expect_epoch(rt, alloc, &mut mutators, 0, Some(0), wanted)
 }
@@ -301,8 +293,7 @@ fn two_threads_go_through_an_epoch(rt: HostRuntime) -> Result<(), Fail> {
         told: 4,
     };
     let used = expect_both(&rt, rt.alloc(), text, 0, [first, second])?;
-    assert_eq!(rt; used, 6);
-    Ok(())
+    same(used, 6)
 }
 
 #[test]
@@ -320,8 +311,7 @@ fn a_silent_collection_is_due_behind_every_second_reply(rt: HostRuntime) -> Resu
         told: 0,
     };
     let used = expect_both(&rt, rt.alloc(), text, 2, [first, second])?;
-    assert_eq!(rt; used, 3);
-    Ok(())
+    same(used, 3)
 }
 
 #[test]
@@ -339,9 +329,7 @@ fn all_go_on_behind_a_first_call_that_is_answered(rt: HostRuntime) -> Result<(),
         told: 1,
     };
     let (used, lacked) = expect_first(&rt, rt.alloc(), text, [first, second])?;
-    assert_eq!(rt; used, 6);
-    assert_eq!(rt; lacked, None);
-    Ok(())
+    same((used, lacked), (6, None))
 }
 
 #[test]
@@ -359,7 +347,5 @@ fn no_other_runs_behind_a_first_call_that_lacks_words(rt: HostRuntime) -> Result
         told: 0,
     };
     let (used, lacked) = expect_first(&rt, rt.alloc(), text, [first, second])?;
-    assert_eq!(rt; used, 64);
-    assert_eq!(rt; lacked, Some(82));
-    Ok(())
+    same((used, lacked), (64, Some(82)))
 }

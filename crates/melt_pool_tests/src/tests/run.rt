@@ -1,10 +1,10 @@
 ghost use Rattle.melt_model.specs.Config.{InRanges};
 
 use super::*;
-use melt_pool::run::run_threads;
 use melt_disk::StaleSpace;
 use melt_io::{StaleDisk, SteadyDisk};
 use melt_model::{Config, Report};
+use melt_pool::run_threads;
 
 /// How often a thread looks for the other before it goes on without it.
 const HOLD: u32 = 1_000_000_000;
@@ -83,13 +83,13 @@ fn run_over<X: Threads + Sync, G: Gate + Sync>(
 }
 
 /// Compares what the threads of a run were told, and that each of them came to its end.
-fn expect_replies<R: Abort>(rt: &R, report: &Report, wanted: &[&[Reply]]) {
-    assert_eq!(rt; report.threads.items.len(), wanted.len());
+fn expect_replies(report: &Report, wanted: &[&[Reply]]) -> Result<(), Fail> {
+    same(report.threads.items.len(), wanted.len())?;
     for (thread, replies) in report.threads.items.iter().zip(wanted) {
-        assert_eq!(rt; thread.replies.items.as_slice(), *replies);
-        assert_eq!(rt; thread.end, ThreadEnd::Done);
+        same(thread.replies.items.as_slice(), *replies)?;
+        same(thread.end, ThreadEnd::Done)?;
     }
-    assert_eq!(rt; report.halt, None);
+    same(report.halt, None)
 }
 
 #[test]
@@ -97,11 +97,9 @@ fn two_threads_are_in_one_epoch_at_once(rt: HostRuntime) -> Result<(), Fail> {
     let text = b"melt 1\nthreads 2\nglobals 0\nthread 0\ndrop 0\ndone\nthread 1\ndrop 0\ndone\n";
     let gate = Meeting::new(1);
     let (report, left) = run_over(&rt, rt.alloc(), text, &gate)?;
-    expect_replies(&rt, &report, &[&[Reply::Done], &[Reply::Done]]);
-    assert!(rt; left.is_some());
-    let missed = gate.missed.load(Ordering::SeqCst);
-    assert_eq!(rt; missed, 0);
-    Ok(())
+    expect_replies(&report, &[&[Reply::Done], &[Reply::Done]])?;
+    same(left.is_some(), true)?;
+    same(gate.missed.load(Ordering::SeqCst), 0)
 }
 
 #[test]
@@ -137,11 +135,9 @@ fn objects_of_two_threads_move_to_disk_and_come_back(rt: HostRuntime) -> Result<
         Reply::Ref,
         Reply::Num(8),
     ];
-    expect_replies(&rt, &report, &[&first, &second]);
-    assert!(rt; left.is_some());
-    let missed = gate.missed.load(Ordering::SeqCst);
-    assert_eq!(rt; missed, 0);
+    expect_replies(&report, &[&first, &second])?;
+    same(left.is_some(), true)?;
+    same(gate.missed.load(Ordering::SeqCst), 0)?;
     let bodies = report.journal.items.iter().map(|it| it.bodies).max();
-    assert_eq!(rt; bodies, Some(2));
-    Ok(())
+    same(bodies, Some(2))
 }

@@ -1,8 +1,8 @@
 use Rattle.std.proofs.Common.{◌≡◌, sym, ◌∙◌}
 use Rattle.std.specs.Prelude.{Some, []}
 use Rattle.melt_epoch.proofs.Empty.{two_may_start}
-use Rattle.melt_pool_tests.specs.declared.tests.NoDisk.{NoDisk}
 use Rattle.melt_pool.specs.declared.worker.Worker.{Worker}
+use Rattle.melt_pool_tests.specs.declared.tests.NoDisk.{NoDisk}
 use Rattle.melt_pool_tests.proofs.Starting.{two_new}
 use Rattle.melt_pool_tests.proofs.tests.first_refused.Goals as goal
 

@@ -5,8 +5,8 @@ use Rattle.melt_trace.specs.Script.{operations}
 use Rattle.melt_epoch.specs.declared.mutator.Mutator.{Mutator}
 use Rattle.melt_epoch.proofs.Empty.{new_may_start}
 use Rattle.melt_safepoint.specs.Threads.{IsNewThread}
-use Rattle.melt_pool_tests.specs.declared.tests.NoDisk.{NoDisk}
 use Rattle.melt_pool.specs.declared.worker.Worker.{Worker}
+use Rattle.melt_pool_tests.specs.declared.tests.NoDisk.{NoDisk}
 use Rattle.melt_pool_tests.proofs.Starting.{new_rests}
 use Rattle.melt_pool_tests.proofs.tests.new_mutator.Goals as goal
 

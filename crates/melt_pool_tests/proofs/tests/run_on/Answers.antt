@@ -5,8 +5,8 @@ use Rattle.melt_epoch.proofs.Empty.{empty_start, new_heap_begins, no_history_beg
 use Rattle.melt_rule.specs.declared.began.Began.{Began}
 use Rattle.melt_pool.specs.Beginning.{IsAtRest, start_of}
 use Rattle.melt_pool.specs.Epochs.{AllRest}
-use Rattle.melt_pool_tests.specs.declared.tests.NoDisk.{NoDisk}
 use Rattle.melt_pool.specs.declared.worker.Worker.{Worker}
+use Rattle.melt_pool_tests.specs.declared.tests.NoDisk.{NoDisk}
 use Rattle.melt_pool_tests.proofs.Resting.{begun_rests}
 use Rattle.melt_pool_tests.proofs.tests.run_on.Goals as goal
 
