@@ -1,7 +1,8 @@
-//! Threads over heaps that were collected: what they share, what they are told, and whether that stands in one order.
+//! Tests of running threads, by turns and at once, over new heaps and over heaps that were collected: what they are told
+//! at each call, and whether that stands in one order.
 //!
-//! It is a crate of its own since `melt_epoch` stands below the collections, and these make the heaps that are needed
-//! here: with tags, with homes on a disk, and with scions. Its tests run threads over them.
+//! It is a crate of its own so that `melt_epoch` is proved once, and since that stands below the collections, which make
+//! the heaps that are needed here: with tags, with homes on a disk, and with scions.
 #![tactic(auto)]
 
 pub mod play;

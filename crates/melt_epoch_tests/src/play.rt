@@ -85,7 +85,12 @@ fn await_count(count: &AtomicU64, wanted: u64) {
 }
 
 /// The first number in the object that a register holds.
-fn number_at<R: RecordReader>(epoch: &Epoch, globals: u8, m: &mut Mutator<R>, r: u8) -> Option<u64>
+pub(crate) fn number_at<R: RecordReader>(
+    epoch: &Epoch,
+    globals: u8,
+    m: &mut Mutator<R>,
+    r: u8,
+) -> Option<u64>
     requires globals { globals ≡ epoch.now.words.start.began.globals }
     requires may { MayCall R.image epoch.now.words m.old }
     ensures may { MayCall R.image epoch.now.words m.new }

@@ -23,8 +23,8 @@ pub struct Stage<'d, D: StaleDisk, R: RecordReader> {
     pub disk: StaleSpace<'d, D>,
 }
 
-/// Makes a call of a mutator, or none where a register or a global is not there, an object would be too large, or the
-/// call is none of an epoch.
+/// Makes a call of a mutator, or none where a register or a global is not there, or an object would be too large. To
+/// collect, it asks all to stop.
 pub fn call<R: RecordReader>(
     epoch: &Epoch,
     globals: u8,
@@ -45,6 +45,13 @@ pub fn call<R: RecordReader>(
         Op::Put { obj, j, v } if obj < 16 => Some(epoch.put(m, obj, j, v)),
         Op::GLoad { dst, g } if dst < 16 && g < globals => Some(epoch.gload(m, dst, g)),
         Op::GStore { g, src } if g < globals && src < 16 => Some(epoch.gstore(m, g, src)),
+        Op::Same { a, b } if a < 16 && b < 16 => Some(Ok(m.same(a, b))),
+        Op::Copy { dst, src } if dst < 16 && src < 16 => Some(Ok(m.copy_reg(dst, src))),
+        Op::Drop { r } if r < 16 => Some(Ok(m.drop_reg(r))),
+        Op::Collect => {
+            epoch.ask(m);
+            Some(Ok(Reply::Done))
+        }
         _ => None,
     }
 }

@@ -1,5 +1,4 @@
-use super::*;
-
+mod calls;
 mod epoch;
 mod given;
 mod homes;

@@ -1,6 +1,7 @@
-ghost use Rattle.std.specs.Prelude.{◌≡◌, [], Ok, IfOk};
+ghost use Rattle.std.specs.Prelude.{◌≡◌, [], IfOk};
 ghost use Rattle.melt_move.specs.Collecting.{IsFormedOn};
 
+use super::calls::{new, put};
 use crate::play::{Signals, Step};
 use crate::told::{Log, Told};
 use crate::trouble::Trouble;
@@ -9,7 +10,6 @@ use melt_core::Refusal;
 use melt_io::{Failed, MemDisk, RecordReader};
 use melt_model::{Op, Phase, Reply};
 use std::alloc::{AllocError, Global};
-use std::process::Abort;
 use std::sync::{Arc, Wait};
 use std::test::Fail;
 use std::thread::Threads;
@@ -106,35 +106,8 @@ pub(super) fn world_behind<'d>(
 }
 
 /// Makes an object with one slot and its number, in the register of that number.
-const fn object(number: u8) -> [Op; 2] {
-    [
-        Op::New {
-            dst: number,
-            refs: 1,
-            nums: 1,
-        },
-        Op::Put {
-            obj: number,
-            j: 0,
-            v: number as u64,
-        },
-    ]
-}
-
-pub(super) const fn gload(dst: u8, g: u8) -> Op {
-    Op::GLoad { dst, g }
-}
-
-pub(super) const fn gstore(g: u8, src: u8) -> Op {
-    Op::GStore { g, src }
-}
-
-pub(super) const fn load(dst: u8, src: u8) -> Op {
-    Op::Load { dst, src, i: 0 }
-}
-
-pub(super) const fn store(obj: u8, src: u8) -> Op {
-    Op::Store { obj, i: 0, src }
+fn object(number: u8) -> [Op; 2] {
+    [new(number, 1, 1), put(number, 0, u64::from(number))]
 }
 
 /// What threads were told, what register `r` of each holds, and the heap behind them.
@@ -207,33 +180,17 @@ pub(super) fn run<'d, T: Threads + Wait + Sync>(
 }
 
 /// What call `at` of a thread came to.
-pub(super) fn result<R: Abort>(
-    rt: &R,
+pub(super) fn result(
     logs: &[Log],
     thread: usize,
     at: usize,
-) -> Result<Reply, Refusal> {
-    told(rt, logs, thread, at).result
+) -> Result<Result<Reply, Refusal>, Fail> {
+    Ok(told(logs, thread, at)?.result)
 }
 
 /// What a thread was told of its call `at`.
-pub(super) fn told<R: Abort>(rt: &R, logs: &[Log], thread: usize, at: usize) -> Told {
-    let log = logs.get(thread).expect(rt, "a thread");
-    let Some(Some(told)) = log.get(at) else {
-        panic!(rt; "no call {at}");
-    };
-    *told
-}
-
-/// Says in a test what went wrong.
-pub(super) fn fine<X>(done: Result<X, Trouble>) -> Result<X, Fail>
-    ensures { IfOk result (λ x. done ≡ Ok x) }
-{
-    match done {
-        Ok(x) => Ok(x),
-        Err(Trouble::NoMemory) => Err("no memory".into()),
-        Err(Trouble::Disk) => Err("a collection or a lend was refused".into()),
-        Err(Trouble::Unsettled) => Err("the epoch did not begin".into()),
-        Err(Trouble::Call) => Err("a call was not answered".into()),
-    }
+pub(super) fn told(logs: &[Log], thread: usize, at: usize) -> Result<Told, Fail> {
+    let log = logs.get(thread).ok_or("no thread")?;
+    let told = log.get(at).ok_or("no call")?;
+    Ok(told.ok_or("no call")?)
 }

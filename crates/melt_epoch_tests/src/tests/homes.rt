@@ -1,14 +1,15 @@
 ghost use Rattle.std.specs.Prelude.{[], IfOk};
 ghost use Rattle.melt_move.specs.Collecting.{IsFormedOn};
 
-use super::given::{Before, Ended, Flaw, fine, gload, result, run, world_behind};
+use super::calls::gload;
+use super::given::{Before, Ended, Flaw, result, run, world_behind};
 use crate::play::Step::{self, Await, Call, Raise};
 use crate::world::World;
 use melt_core::{Pause, Refusal};
 use melt_io::MemDisk;
 use melt_model::{Op, Phase, Reply};
+use melt_same::same;
 use std::alloc::Global;
-use std::process::Abort;
 use std::sync::Wait;
 use std::test::Fail;
 use std::thread::Threads;
@@ -37,23 +38,22 @@ const ONE: Before<'static> = Before {
 fn two_loads_of_one_home_find_one_object(rt: HostRuntime) -> Result<(), Fail> {
     let alloc = rt.alloc();
     let mut disk = MemDisk::new(alloc);
-    let world = fine(world_behind(alloc, &mut disk, &ONE))?;
-    assert_eq!(rt; world.used(), 0);
+    let world = world_behind(alloc, &mut disk, &ONE)?;
+    same(world.used(), 0)?;
     let first = [Call(gload(0, 0))];
     let second = [Call(gload(0, 1))];
     let programs: [&[Step]; 2] = [&first, &second];
-    let Ended { logs, held, world } = fine(run(&rt, alloc, world, Flaw::Nothing, &programs, 0))?;
+    let Ended { logs, held, world } = run(&rt, alloc, world, Flaw::Nothing, &programs, 0)?;
     for k in 0..2 {
-        assert_eq!(rt; result(&rt, &logs, k, 0), Ok(Reply::Ref));
+        same((k, result(&logs, k, 0)?), (k, Ok(Reply::Ref)))?;
     }
-    assert!(rt; held[0] != 0);
-    assert_eq!(rt; held[0], held[1]);
-    assert_eq!(rt; world.returned(), Some(1));
-    Ok(())
+    same(held[0] != 0, true)?;
+    same(held[0], held[1])?;
+    same(world.returned(), Some(1))
 }
 
 /// Lets eight threads load one global each, all at once, and looks that they find one object.
-fn load_by_eight<'d, T: Threads + Wait + Abort + Sync>(
+fn load_by_eight<'d, T: Threads + Wait + Sync>(
     rt: &T,
     alloc: Global,
     world: World<'d, MemDisk>,
@@ -72,12 +72,12 @@ fn load_by_eight<'d, T: Threads + Wait + Abort + Sync>(
         [Call(gload(0, 7))],
     ];
     let programs: [&[Step]; 8] = [&p0, &p1, &p2, &p3, &p4, &p5, &p6, &p7];
-    let Ended { logs, held, world } = fine(run(rt, alloc, world, Flaw::Nothing, &programs, 0))?;
+    let Ended { logs, held, world } = run(rt, alloc, world, Flaw::Nothing, &programs, 0)?;
     for k in 0..8 {
-        assert_eq!(rt; result(rt, &logs, k, 0), Ok(Reply::Ref));
-        assert_eq!(rt; held[0], held[k]);
+        same((k, result(&logs, k, 0)?), (k, Ok(Reply::Ref)))?;
+        same((k, held[0]), (k, held[k]))?;
     }
-    assert_eq!(rt; world.returned(), Some(1));
+    same(world.returned(), Some(1))?;
     Ok(world)
 }
 
@@ -88,12 +88,12 @@ const ROUNDS: u32 = 100;
 fn eight_loads_of_one_home_find_one_object(rt: HostRuntime) -> Result<(), Fail> {
     let alloc = rt.alloc();
     let mut disk = MemDisk::new(alloc);
-    let mut world = fine(world_behind(alloc, &mut disk, &ONE))?;
+    let mut world = world_behind(alloc, &mut disk, &ONE)?;
     for round in 0..ROUNDS {
         world = load_by_eight(&rt, alloc, world)?;
-        world = fine(world.collect(alloc, Phase::Move))?;
-        world = fine(world.collect(alloc, Phase::Move))?;
-        assert_eq!(rt; world.used(), 0, "round {round}");
+        world = world.collect(alloc, Phase::Move)?;
+        world = world.collect(alloc, Phase::Move)?;
+        same((round, world.used()), (round, 0))?;
     }
     Ok(())
 }
@@ -115,7 +115,7 @@ fn one_home_more_than_there_are_forwarding_words_stops_all(rt: HostRuntime) -> R
     let alloc = rt.alloc();
     for _ in 0..20 {
         let mut disk = MemDisk::new(alloc);
-        let world = fine(world_behind(alloc, &mut disk, &THREE))?;
+        let world = world_behind(alloc, &mut disk, &THREE)?;
         let first = [
             Call(gload(0, 0)),
             Raise(0),
@@ -142,19 +142,19 @@ fn one_home_more_than_there_are_forwarding_words_stops_all(rt: HostRuntime) -> R
             logs,
             held: _,
             world,
-        } = fine(run(&rt, alloc, world, Flaw::Nothing, &programs, 0))?;
+        } = run(&rt, alloc, world, Flaw::Nothing, &programs, 0)?;
         let (mut found, mut full) = (0_u32, 0_u32);
         for k in 0..3 {
-            match result(&rt, &logs, k, 0) {
+            match result(&logs, k, 0)? {
                 Ok(Reply::Ref) => found = found.saturating_add(1),
                 Err(Refusal::Pause(Pause::Forward)) => full = full.saturating_add(1),
                 _ => {}
             }
             let asked = Err(Refusal::Pause(Pause::Asked));
-            assert_eq!(rt; result(&rt, &logs, k, 1), asked);
+            same((k, result(&logs, k, 1)?), (k, asked))?;
         }
-        assert_eq!(rt; (found, full), (2, 1));
-        assert_eq!(rt; world.returned(), Some(2));
+        same((found, full), (2, 1))?;
+        same(world.returned(), Some(2))?;
     }
     Ok(())
 }
@@ -163,7 +163,7 @@ fn one_home_more_than_there_are_forwarding_words_stops_all(rt: HostRuntime) -> R
 fn as_many_homes_as_forwarding_words_come_back(rt: HostRuntime) -> Result<(), Fail> {
     let alloc = rt.alloc();
     let mut disk = MemDisk::new(alloc);
-    let world = fine(world_behind(alloc, &mut disk, &THREE))?;
+    let world = world_behind(alloc, &mut disk, &THREE)?;
     let first = [Call(gload(0, 0)), Call(gload(0, 1))];
     let second = [Call(gload(0, 1)), Call(gload(0, 0))];
     let programs: [&[Step]; 2] = [&first, &second];
@@ -171,12 +171,12 @@ fn as_many_homes_as_forwarding_words_come_back(rt: HostRuntime) -> Result<(), Fa
         logs,
         held: _,
         world,
-    } = fine(run(&rt, alloc, world, Flaw::Nothing, &programs, 0))?;
+    } = run(&rt, alloc, world, Flaw::Nothing, &programs, 0)?;
     for k in 0..2 {
         for at in 0..2 {
-            assert_eq!(rt; result(&rt, &logs, k, at), Ok(Reply::Ref));
+            let told = result(&logs, k, at)?;
+            same((k, at, told), (k, at, Ok(Reply::Ref)))?;
         }
     }
-    assert_eq!(rt; world.returned(), Some(2));
-    Ok(())
+    same(world.returned(), Some(2))
 }

@@ -1,5 +1,6 @@
 use super::judge::{Deed, PLACES, stand_in_an_order};
-use std::alloc::Global;
+use melt_same::same;
+use std::alloc::{AllocError, Global};
 use std::test::Fail;
 
 /// A store, or a load, of place 0 by a call that was made from the first time to the second.
@@ -13,25 +14,25 @@ const fn deed(is_store: bool, value: u64, begun: u64, ended: u64) -> Deed {
     }
 }
 
-const fn stores(value: u64, begun: u64, ended: u64) -> Deed {
+pub(super) const fn stores(value: u64, begun: u64, ended: u64) -> Deed {
     deed(true, value, begun, ended)
 }
 
-const fn loads(value: u64, begun: u64, ended: u64) -> Deed {
+pub(super) const fn loads(value: u64, begun: u64, ended: u64) -> Deed {
     deed(false, value, begun, ended)
 }
 
 /// Whether the calls of two threads stand in one order.
-fn is_legal(alloc: Global, first: [Deed; 2], second: [Deed; 2]) -> Result<bool, Fail> {
+pub(super) fn is_legal(alloc: Global, first: &[Deed], second: &[Deed]) -> Result<bool, AllocError> {
     let mut threads = Vec::new(alloc);
-    threads.push(Vec::from_slice(alloc, &first)?)?;
-    threads.push(Vec::from_slice(alloc, &second)?)?;
-    Ok(stand_in_an_order(alloc, &threads, [0; PLACES])?)
+    threads.push(Vec::from_slice(alloc, first)?)?;
+    threads.push(Vec::from_slice(alloc, second)?)?;
+    stand_in_an_order(alloc, &threads, [0; PLACES])
 }
 
 #[test]
 fn an_order_is_found_where_there_is_one(rt: HostRuntime) -> Result<(), Fail> {
-    for (first, second, wanted) in [
+    let rows = [
         (
             [stores(1, 0, 9), loads(1, 10, 19)],
             [stores(2, 1, 8), loads(2, 11, 18)],
@@ -72,8 +73,10 @@ fn an_order_is_found_where_there_is_one(rt: HostRuntime) -> Result<(), Fail> {
             [stores(2, 11, 18), loads(2, 20, 21)],
             false,
         ),
-    ] {
-        assert_eq!(rt; is_legal(rt.alloc(), first, second)?, wanted);
+    ];
+    for (at, (first, second, wanted)) in rows.iter().enumerate() {
+        let is_found = is_legal(rt.alloc(), first, second)?;
+        same((at, is_found), (at, *wanted))?;
     }
     Ok(())
 }

@@ -1,11 +1,13 @@
-use super::given::{
-    Before, Ended, Flaw, fine, gload, gstore, load, result, run, store, told, world_behind,
-};
+use super::calls::{gload, gstore, load, store};
+use super::given::{Before, Ended, Flaw, result, run, told, world_behind};
 use crate::play::Step::{self, Await, Call, Raise};
+use crate::told::Told;
+use crate::trouble::Trouble;
 use melt_core::Refusal;
 use melt_io::MemDisk;
 use melt_model::{Op, Reply};
 use melt_record::Damaged;
+use melt_same::same;
 use std::alloc::Global;
 use std::sync::Wait;
 use std::test::Fail;
@@ -21,9 +23,14 @@ fn run_two<'d, T: Threads + Wait + Sync>(
     flaw: Flaw,
     programs: &[&[Step]],
     r: usize,
-) -> Result<Ended<'d>, Fail> {
-    let world = fine(world_behind(alloc, disk, before))?;
-    fine(run(rt, alloc, world, flaw, programs, r))
+) -> Result<Ended<'d>, Trouble> {
+    let world = world_behind(alloc, disk, before)?;
+    run(rt, alloc, world, flaw, programs, r)
+}
+
+/// Whether a call was made while the other was.
+fn is_within(call: Told, other: Told) -> bool {
+    other.begun < call.begun && call.ended < other.ended
 }
 
 /// Object 1 refers to object 2. Global 0 holds the first, and global 1 the second, which is used, and so stays.
@@ -46,7 +53,7 @@ const STUB: Before<'static> = Before {
 fn the_object_of_a_stub_is_cleared_while_the_stub_is_read(rt: HostRuntime) -> Result<(), Fail> {
     let alloc = rt.alloc();
     let mut disk = MemDisk::new(alloc);
-    let first = [Call(gload(0, 0)), Call(load(1, 0))];
+    let first = [Call(gload(0, 0)), Call(load(1, 0, 0))];
     let second = [Await(0), Call(gload(1, 1)), Raise(1)];
     let Ended { logs, held, world } = run_two(
         &rt,
@@ -57,13 +64,11 @@ fn the_object_of_a_stub_is_cleared_while_the_stub_is_read(rt: HostRuntime) -> Re
         &[&first, &second],
         1,
     )?;
-    assert_eq!(rt; told(&rt, &logs, 0, 1).found, Some(2));
-    assert_eq!(rt; told(&rt, &logs, 1, 0).found, Some(2));
-    let [first, second] = [told(&rt, &logs, 0, 1), told(&rt, &logs, 1, 0)];
-    assert!(rt; first.begun < second.begun && second.ended < first.ended);
-    assert_eq!(rt; held[0], held[1]);
-    assert_eq!(rt; world.returned(), Some(1));
-    Ok(())
+    let [first, second] = [told(&logs, 0, 1)?, told(&logs, 1, 0)?];
+    same([first.found, second.found], [Some(2), Some(2)])?;
+    same(is_within(second, first), true)?;
+    same(held[0], held[1])?;
+    same(world.returned(), Some(1))
 }
 
 /// Two objects, each of which is held by a global.
@@ -92,11 +97,12 @@ fn a_reader_fails_or_lies_for_one_thread_alone(rt: HostRuntime) -> Result<(), Fa
             held: _,
             world,
         } = run_two(&rt, alloc, &mut disk, &TWO, flaw, &[&first, &second], 0)?;
-        assert_eq!(rt; result(&rt, &logs, 0, 0), Err(refusal));
-        assert_eq!(rt; told(&rt, &logs, 0, 1).found, Some(1));
-        assert_eq!(rt; told(&rt, &logs, 1, 0).found, Some(2));
-        assert_eq!(rt; told(&rt, &logs, 1, 1).found, Some(2));
-        assert_eq!(rt; world.returned(), Some(2));
+        same(result(&logs, 0, 0)?, Err(refusal))?;
+        let again = told(&logs, 0, 1)?;
+        let [first, second] = [told(&logs, 1, 0)?, told(&logs, 1, 1)?];
+        same(again.found, Some(1))?;
+        same([first.found, second.found], [Some(2), Some(2)])?;
+        same(world.returned(), Some(2))?;
     }
     Ok(())
 }
@@ -123,13 +129,13 @@ fn a_load_finds_what_was_stored_while_it_read_the_record(rt: HostRuntime) -> Res
     let alloc = rt.alloc();
     let hold = [Call(gload(0, 0)), Call(gload(1, 1)), Await(0)];
     for (looked, stored, found) in [
-        (load(3, 0), store(0, 1), Some(3)),
-        (load(3, 0), store(0, 0), Some(1)),
-        (load(3, 0), store(0, 5), None),
+        (load(3, 0, 0), store(0, 0, 1), Some(3)),
+        (load(3, 0, 0), store(0, 0, 0), Some(1)),
+        (load(3, 0, 0), store(0, 0, 5), None),
         (gload(3, 2), gstore(2, 1), Some(3)),
         (gload(3, 2), gstore(2, 5), None),
     ] {
-        let first = [Call(gload(0, 0)), Call(looked), Call(load(4, 3))];
+        let first = [Call(gload(0, 0)), Call(looked), Call(load(4, 3, 0))];
         let second = [hold[0], hold[1], hold[2], Call(stored), Raise(1)];
         let mut disk = MemDisk::new(alloc);
         let programs: [&[Step]; 2] = [&first, &second];
@@ -143,13 +149,12 @@ fn a_load_finds_what_was_stored_while_it_read_the_record(rt: HostRuntime) -> Res
         } else {
             Reply::Null
         };
-        assert_eq!(rt; result(&rt, &logs, 0, 1), Ok(reply));
-        assert_eq!(rt; told(&rt, &logs, 0, 1).found, found);
-        assert_eq!(rt; result(&rt, &logs, 1, 2), Ok(Reply::Done));
-        let [looked, stored] = [told(&rt, &logs, 0, 1), told(&rt, &logs, 1, 2)];
-        assert!(rt; looked.begun < stored.begun && stored.ended < looked.ended);
+        let [looked, stored] = [told(&logs, 0, 1)?, told(&logs, 1, 2)?];
+        same((looked.result, looked.found), (Ok(reply), found))?;
+        same(stored.result, Ok(Reply::Done))?;
+        same(is_within(stored, looked), true)?;
         // The copy came into use all the same.
-        assert_eq!(rt; world.returned(), Some(1));
+        same(world.returned(), Some(1))?;
     }
     Ok(())
 }

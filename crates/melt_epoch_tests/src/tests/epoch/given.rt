@@ -1,18 +1,17 @@
-ghost use Rattle.std.specs.Prelude.{◌≡◌, ◌^◌, ◌<◌, ◌≤◌, ℕ, false, [], Some, IfOk};
+ghost use Rattle.std.specs.Prelude.{◌≡◌, ◌^◌, ◌<◌, ℕ, false, length, [], Some, IfOk};
 ghost use Rattle.melt_scion.specs.Heaps.{IsNewHeap};
-ghost use Rattle.melt_epoch.specs.Ends.{MayEnd};
-ghost use Rattle.melt_epoch.specs.Tests.{AllMayStart, HasBegun, HasSizes, MayCall, MayStart};
+ghost use Rattle.melt_epoch.specs.Tests.{AllMayStart, HasBegun, HasSizes, MayStart};
 
-use melt_epoch::{Epoch, Mutator};
+use crate::stage::call;
 use melt_core::{Pause, Refusal};
+use melt_epoch::{Epoch, Mutator};
 use melt_io::{Failed, RecordReader};
 use melt_model::{NoMemory, Op, Reply};
 use melt_rule::Pass;
+use melt_same::same;
 use melt_scion::Heap;
 use std::alloc::Global;
-use std::process::Abort;
-use std::sync::atomic::{AtomicU64, Ordering};
-use std::thread;
+use std::test::Fail;
 
 /// The reader of a disk that has no words, whose reads fail.
 #[derive(Drop)]
@@ -36,7 +35,7 @@ impl RecordReader for NoDisk {
 }
 
 /// The mutator of a thread, with a reader of no disk.
-pub(super) fn new_mutator(thread: u32) -> Mutator<NoDisk>
+fn new_mutator(thread: u32) -> Mutator<NoDisk>
     requires { thread < 8 }
     ensures thread { result.thread ≡ thread }
     ensures may_start { MayStart (λ _. Some []) result }
@@ -73,39 +72,6 @@ pub(super) fn eight_mutators() -> [Mutator<NoDisk>; 8]
     ]
 }
 
-/// Gives up a mutator whose seat was taken back.
-fn free<R: Abort>(rt: &R, mutator: Mutator<NoDisk>) {
-    let Mutator {
-        thread: _,
-        registers: _,
-        values: _,
-        seat,
-        reader: _,
-    } = mutator;
-    let None = seat else {
-        panic!(rt; "a seat was not taken back");
-    };
-}
-
-pub(super) fn free_one<R: Abort>(rt: &R, mutators: [Mutator<NoDisk>; 1]) {
-    let [first] = mutators;
-    free(rt, first);
-}
-
-pub(super) fn free_two<R: Abort>(rt: &R, mutators: [Mutator<NoDisk>; 2]) {
-    let [first, second] = mutators;
-    free(rt, first);
-    free(rt, second);
-}
-
-pub(super) fn free_eight<R: Abort>(rt: &R, mutators: [Mutator<NoDisk>; 8]) {
-    let [m0, m1, m2, m3, m4, m5, m6, m7] = mutators;
-    free_two(rt, [m0, m1]);
-    free_two(rt, [m2, m3]);
-    free_two(rt, [m4, m5]);
-    free_two(rt, [m6, m7]);
-}
-
 /// Begins an epoch on a new heap, over a disk that has no words.
 fn begin_empty<R: RecordReader>(
     alloc: Global,
@@ -115,123 +81,27 @@ fn begin_empty<R: RecordReader>(
     requires heap { (words : ℕ) × (globals : ℕ) × (forwards : ℕ) × HasSizes words globals forwards
         × IsNewHeap words globals forwards false heap }
     requires mutators { AllMayStart R.image mutators.old }
-    ensures { IfOk result (λ epoch. HasBegun R.image epoch.words mutators.new) }
+    ensures begun { IfOk result (λ epoch. HasBegun R.image epoch.words mutators.new) }
+    ensures globals { IfOk result (λ epoch. length heap.globals ≡ epoch.words.start.began.globals) }
 {
     Epoch::begin(alloc, heap, Pass::new(), 1, mutators)
 }
 
 /// Begins the epoch of a new heap of so many words, globals and forwarding words.
-pub(super) fn begun<R: Abort>(
-    rt: &R,
+pub(super) fn begun(
     alloc: Global,
     words: u32,
     globals: u8,
     forwards: u8,
     mutators: &mut [Mutator<NoDisk>],
-) -> Epoch
+) -> Result<Epoch, NoMemory>
     requires words { words < 2 ^ 30 }
     requires mutators { AllMayStart (λ _. Some []) mutators.old }
-    ensures { HasBegun (λ _. Some []) result.words mutators.new }
+    ensures begun { IfOk result (λ epoch. HasBegun (λ _. Some []) epoch.words mutators.new) }
+    ensures globals { IfOk result (λ epoch. globals ≡ epoch.words.start.began.globals) }
 {
-    let Ok(heap) = Heap::new(alloc, words, globals.into(), forwards.into(), false) else {
-        panic!(rt; "no memory");
-    };
-    let Ok(epoch) = begin_empty(alloc, heap, mutators) else {
-        panic!(rt; "no memory");
-    };
-    epoch
-}
-
-/// Makes a call of a mutator. To collect, it asks all to stop.
-pub(super) fn run_call<R: Abort>(
-    rt: &R,
-    epoch: &Epoch,
-    m: &mut Mutator<NoDisk>,
-    op: Op,
-) -> Result<Reply, Refusal>
-    requires { MayCall (λ _. Some []) epoch.now.words m.old }
-    ensures { MayCall (λ _. Some []) epoch.now.words m.new }
-{
-    match op {
-        Op::New { dst, refs, nums } => {
-            assert!(rt; dst < 16 && refs <= 62 && nums <= 62);
-            epoch.make(m, dst, refs, nums)
-        }
-        Op::Get { src, j } => {
-            assert!(rt; src < 16);
-            epoch.get(m, src, j)
-        }
-        Op::Put { obj, j, v } => {
-            assert!(rt; obj < 16);
-            epoch.put(m, obj, j, v)
-        }
-        Op::Store { obj, i, src } => {
-            assert!(rt; obj < 16 && src < 16);
-            epoch.store(m, obj, i, src)
-        }
-        Op::GStore { g, src } => {
-            let globals = epoch.heap.globals.items.len();
-            assert!(rt; usize::from(g) < globals && src < 16);
-            epoch.gstore(m, g, src)
-        }
-        Op::Same { a, b } => {
-            assert!(rt; a < 16 && b < 16);
-            Ok(m.same(a, b))
-        }
-        Op::Copy { dst, src } => {
-            assert!(rt; dst < 16 && src < 16);
-            Ok(m.copy_reg(dst, src))
-        }
-        Op::Drop { r } => {
-            assert!(rt; r < 16);
-            Ok(m.drop_reg(r))
-        }
-        Op::Collect => {
-            epoch.ask(m);
-            Ok(Reply::Done)
-        }
-        Op::Load { dst, src, i } => {
-            assert!(rt; dst < 16 && src < 16);
-            epoch.load(m, dst, src, i)
-        }
-        Op::GLoad { dst, g } => {
-            let globals = epoch.heap.globals.items.len();
-            assert!(rt; dst < 16 && usize::from(g) < globals);
-            epoch.gload(m, dst, g)
-        }
-    }
-}
-
-pub(super) fn new(dst: u8, refs: u8, nums: u8) -> Op {
-    Op::New { dst, refs, nums }
-}
-
-pub(super) fn get(src: u8, j: u8) -> Op {
-    Op::Get { src, j }
-}
-
-pub(super) fn put(obj: u8, j: u8, v: u64) -> Op {
-    Op::Put { obj, j, v }
-}
-
-pub(super) fn store(obj: u8, i: u8, src: u8) -> Op {
-    Op::Store { obj, i, src }
-}
-
-pub(super) fn gstore(g: u8, src: u8) -> Op {
-    Op::GStore { g, src }
-}
-
-pub(super) fn gload(dst: u8, g: u8) -> Op {
-    Op::GLoad { dst, g }
-}
-
-pub(super) fn load(dst: u8, src: u8, i: u8) -> Op {
-    Op::Load { dst, src, i }
-}
-
-pub(super) fn same(a: u8, b: u8) -> Op {
-    Op::Same { a, b }
+    let heap = Heap::new(alloc, words, globals.into(), forwards.into(), false)?;
+    begin_empty(alloc, heap, mutators)
 }
 
 /// A call of a mutator, and what it comes to.
@@ -262,34 +132,42 @@ pub(super) fn paused(mutator: usize, op: Op, pause: Pause) -> Wanted {
     }
 }
 
-/// How often a thread looks for another before it goes on without it.
-const TURNS: u32 = 1_000_000;
-
-/// Waits until so many threads have come here in all, or for some time.
-pub(super) fn meet(here: &AtomicU64, threads: u64) {
-    here.fetch_add(1, Ordering::SeqCst);
-    for _ in 0..TURNS {
-        if threads <= here.load(Ordering::SeqCst) {
-            return;
-        }
-        thread::yield_now();
-    }
-}
-
 /// Makes calls one after the other, and compares what they come to.
-pub(super) fn expect<R: Abort>(
-    rt: &R,
+fn expect(
     epoch: &Epoch,
+    globals: u8,
     mutators: &mut [Mutator<NoDisk>],
     calls: &[Wanted],
-)
-    requires { HasBegun (λ _. Some []) epoch.now.words mutators.old }
-    ensures { HasBegun (λ _. Some []) epoch.now.words mutators.new }
+) -> Result<(), Fail>
+    requires globals { globals ≡ epoch.now.words.start.began.globals }
+    requires begun { HasBegun (λ _. Some []) epoch.now.words mutators.old }
+    ensures begun { HasBegun (λ _. Some []) epoch.now.words mutators.new }
 {
     for (at, wanted) in calls.iter().enumerate() {
-        let count = mutators.len();
-        assert!(rt; wanted.mutator < count);
-        let result = run_call(rt, epoch, &mut mutators[wanted.mutator], wanted.op);
-        assert_eq!(rt; result, wanted.result, "at {at}");
+        if wanted.mutator >= mutators.len() {
+            return Err("no mutator".into());
+        }
+        let result = call(epoch, globals, &mut mutators[wanted.mutator], wanted.op);
+        same((at, result), (at, Some(wanted.result)))?;
     }
+    Ok(())
+}
+
+/// Makes calls so in an epoch on a new heap of so many words, globals and forwarding words. Answers the heap behind it.
+pub(super) fn expect_in(
+    alloc: Global,
+    words: u32,
+    globals: u8,
+    forwards: u8,
+    mutators: &mut [Mutator<NoDisk>],
+    calls: &[Wanted],
+) -> Result<Heap, Fail>
+    requires words { words < 2 ^ 30 }
+    requires mutators { AllMayStart (λ _. Some []) mutators.old }
+{
+    let epoch = begun(alloc, words, globals, forwards, mutators)?;
+    let compared = expect(&epoch, globals, mutators, calls);
+    let (heap, _pass) = epoch.finish(mutators);
+    compared?;
+    Ok(heap)
 }

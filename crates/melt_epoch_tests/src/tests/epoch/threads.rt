@@ -1,24 +1,29 @@
-ghost use Rattle.std.specs.Prelude.{[], Some};
+ghost use Rattle.std.specs.Prelude.{◌≡◌, [], Some};
 ghost use Rattle.melt_epoch.specs.Tests.{HasBegun, MayCall};
 
-use super::given::{
-    NoDisk, begun, eight_mutators, free_eight, free_two, get, gload, gstore, meet, new, put,
-    run_call, two_mutators,
-};
+use super::given::{NoDisk, begun, eight_mutators, two_mutators};
+use crate::play::{Signals, number_at};
+use crate::stage::call;
+use crate::tests::calls::{gload, gstore, new, put};
+use crate::tests::judge::Deed;
+use crate::tests::judged::{is_legal, loads, stores};
 use melt_epoch::{Epoch, Mutator};
-use melt_core::Refusal;
 use melt_model::{Op, Reply};
+use melt_same::same;
+use std::alloc::Global;
 use std::process::Abort;
 use std::sync::atomic::{AtomicU64, Ordering};
+use std::test::Fail;
 use std::thread;
 use std::thread::Threads;
 
-/// Makes a call that is to be answered.
+/// Makes a call that is to be answered, in an epoch with one global.
 fn reply_of<R: Abort>(rt: &R, epoch: &Epoch, m: &mut Mutator<NoDisk>, op: Op) -> Reply
-    requires { MayCall (λ _. Some []) epoch.now.words m.old }
+    requires global { 1 ≡ epoch.now.words.start.began.globals }
+    requires may { MayCall (λ _. Some []) epoch.now.words m.old }
     ensures { MayCall (λ _. Some []) epoch.now.words m.new }
 {
-    let Ok(reply) = run_call(rt, epoch, m, op) else {
+    let Some(Ok(reply)) = call(epoch, 1, m, op) else {
         panic!(rt; "a call was refused");
     };
     reply
@@ -26,7 +31,8 @@ fn reply_of<R: Abort>(rt: &R, epoch: &Epoch, m: &mut Mutator<NoDisk>, op: Op) ->
 
 /// Makes objects of two words, stores each in the global, and loads that.
 fn share_objects<R: Abort>(rt: &R, epoch: &Epoch, m: &mut Mutator<NoDisk>, objects: u32)
-    requires { MayCall (λ _. Some []) epoch.now.words m.old }
+    requires global { 1 ≡ epoch.now.words.start.began.globals }
+    requires may { MayCall (λ _. Some []) epoch.now.words m.old }
     ensures { MayCall (λ _. Some []) epoch.now.words m.new }
 {
     for _object in 0..objects {
@@ -46,97 +52,51 @@ fn all_share_objects<R: Abort + Threads + Sync>(
     mutators: &mut [Mutator<NoDisk>],
     objects: u32,
 )
-    requires { HasBegun (λ _. Some []) epoch.now.words mutators.old }
+    requires global { 1 ≡ epoch.now.words.start.began.globals }
+    requires begun { HasBegun (λ _. Some []) epoch.now.words mutators.old }
     ensures { HasBegun (λ _. Some []) epoch.now.words mutators.new }
 {
-    let here = AtomicU64::new(0);
+    let signals = Signals::new();
     let threads = mutators.len() as u64;
     let share = |_at: usize, m: &mut Mutator<NoDisk>|
-        requires { MayCall (λ _. Some []) epoch.now.words m.now }
+        requires global { 1 ≡ epoch.now.words.start.began.globals }
+        requires may { MayCall (λ _. Some []) epoch.now.words m.now }
         ensures { MayCall (λ _. Some []) epoch.entry.now.words m.exit.now }
     {
-        meet(&here, threads);
+        signals.meet(threads);
         share_objects(rt, epoch, m, objects);
     };
     thread::for_each_mut(rt, mutators, 8, &share);
 }
 
 #[test]
-fn two_threads_make_objects_and_share_them(rt: HostRuntime) {
+fn two_threads_make_objects_and_share_them(rt: HostRuntime) -> Result<(), Fail> {
     let mut mutators = two_mutators();
-    let epoch = begun(&rt, rt.alloc(), 1024, 1, 0, &mut mutators);
+    let epoch = begun(rt.alloc(), 1024, 1, 0, &mut mutators)?;
     all_share_objects(&rt, &epoch, &mut mutators, 100);
     let (heap, _pass) = epoch.finish(&mut mutators);
-    let used = heap.space.used();
-    assert_eq!(rt; used, 400);
-    free_two(&rt, mutators);
+    same(heap.space.used(), 400)
 }
 
 /// How often eight threads do so; `bench/rounds` tries more.
 const ROUNDS: u32 = 100;
 
 #[test]
-fn eight_threads_make_objects_and_share_them(rt: HostRuntime) {
-    for _ in 0..ROUNDS {
+fn eight_threads_make_objects_and_share_them(rt: HostRuntime) -> Result<(), Fail> {
+    for round in 0..ROUNDS {
         let mut mutators = eight_mutators();
-        let epoch = begun(&rt, rt.alloc(), 2048, 1, 0, &mut mutators);
+        let epoch = begun(rt.alloc(), 2048, 1, 0, &mut mutators)?;
         all_share_objects(&rt, &epoch, &mut mutators, 100);
         let (heap, _pass) = epoch.finish(&mut mutators);
-        let used = heap.space.used();
-        assert_eq!(rt; used, 1600);
-        free_eight(&rt, mutators);
+        same((round, heap.space.used()), (round, 1600))?;
     }
-}
-
-/// What one call does with the global: it stores the object with this number, or finds it there.
-#[derive(Clone, Copy)]
-enum Did {
-    Store(u64),
-    Find(u64),
-}
-
-/// Whether there is an order of four calls of one thread and four of another in which each finds what was stored last.
-fn stand_in_an_order(first: [Did; 4], second: [Did; 4]) -> bool {
-    (0..256_u32).any(|turns| stand_by_turns(first, second, turns))
-}
-
-/// Whether the calls stand in one order: bit `k` of `turns` says whether the first thread makes call `k` of all.
-fn stand_by_turns(first: [Did; 4], second: [Did; 4], turns: u32) -> bool {
-    let mut next = [0_usize; 2];
-    let mut stored = 0;
-    for k in 0..8_u32 {
-        let (calls, thread) = if turns >> k & 1 == 1 {
-            (first, 0)
-        } else {
-            (second, 1)
-        };
-        let Some(did) = calls.get(next[thread]) else {
-            return false;
-        };
-        next[thread] += 1;
-        match *did {
-            Did::Store(number) => stored = number,
-            Did::Find(number) if number == stored => {}
-            Did::Find(_) => return false,
-        }
-    }
-    true
-}
-
-/// The number in an object that a register holds.
-fn number_of<R: Abort>(rt: &R, epoch: &Epoch, m: &mut Mutator<NoDisk>, r: u8) -> u64
-    requires { MayCall (λ _. Some []) epoch.now.words m.old }
-    ensures { MayCall (λ _. Some []) epoch.now.words m.new }
-{
-    let Reply::Num(number) = reply_of(rt, epoch, m, get(r, 0)) else {
-        panic!(rt; "no number");
-    };
-    number
+    Ok(())
 }
 
 /// Makes the two objects of a thread, with their numbers, in registers 0 and 1.
 fn make_two<R: Abort>(rt: &R, epoch: &Epoch, m: &mut Mutator<NoDisk>, thread: usize)
-    requires { MayCall (λ _. Some []) epoch.now.words m.old }
+    requires global { 1 ≡ epoch.now.words.start.began.globals }
+    requires may { MayCall (λ _. Some []) epoch.now.words m.old }
     ensures { MayCall (λ _. Some []) epoch.now.words m.new }
 {
     for r in 0..2_u8 {
@@ -156,7 +116,8 @@ fn number_in(thread: usize, r: u8) -> u64 {
 
 /// Stores both objects in the global, and loads it behind each. Writes down the numbers in what it found.
 fn store_and_load<R: Abort>(rt: &R, epoch: &Epoch, m: &mut Mutator<NoDisk>, found: &[AtomicU64; 2])
-    requires { MayCall (λ _. Some []) epoch.now.words m.old }
+    requires global { 1 ≡ epoch.now.words.start.began.globals }
+    requires may { MayCall (λ _. Some []) epoch.now.words m.old }
     ensures { MayCall (λ _. Some []) epoch.now.words m.new }
 {
     for r in 0..2_u8 {
@@ -164,18 +125,31 @@ fn store_and_load<R: Abort>(rt: &R, epoch: &Epoch, m: &mut Mutator<NoDisk>, foun
         reply_of(rt, epoch, m, gload(2 + r, 0));
     }
     for r in 0..2_u8 {
-        let number = number_of(rt, epoch, m, 2 + r);
+        let Some(number) = number_at(epoch, 1, m, 2 + r) else {
+            panic!(rt; "no number");
+        };
         found[r as usize].store(number, Ordering::SeqCst);
     }
 }
 
+/// A store of the object with this number in the global. All calls are made at one time, so that only the order of those
+/// of one thread is known.
+fn stored(number: u64) -> Deed {
+    stores(number, 0, 1)
+}
+
+/// A load of the global that found the object with this number.
+fn found(number: u64) -> Deed {
+    loads(number, 0, 1)
+}
+
 /// What a thread did that found objects with these numbers.
-fn calls_of(thread: usize, found: &[AtomicU64; 2]) -> [Did; 4] {
+fn calls_of(thread: usize, numbers: &[AtomicU64; 2]) -> [Deed; 4] {
     [
-        Did::Store(number_in(thread, 0)),
-        Did::Find(found[0].load(Ordering::SeqCst)),
-        Did::Store(number_in(thread, 1)),
-        Did::Find(found[1].load(Ordering::SeqCst)),
+        stored(number_in(thread, 0)),
+        found(numbers[0].load(Ordering::SeqCst)),
+        stored(number_in(thread, 1)),
+        found(numbers[1].load(Ordering::SeqCst)),
     ]
 }
 
@@ -184,19 +158,21 @@ fn both_store_and_load<R: Abort + Threads + Sync>(
     rt: &R,
     epoch: &Epoch,
     mutators: &mut [Mutator<NoDisk>],
-) -> [[Did; 4]; 2]
-    requires { HasBegun (λ _. Some []) epoch.now.words mutators.old }
+) -> [[Deed; 4]; 2]
+    requires global { 1 ≡ epoch.now.words.start.began.globals }
+    requires begun { HasBegun (λ _. Some []) epoch.now.words mutators.old }
     ensures { HasBegun (λ _. Some []) epoch.now.words mutators.new }
 {
-    let here = AtomicU64::new(0);
+    let signals = Signals::new();
     let first = [AtomicU64::new(0), AtomicU64::new(0)];
     let second = [AtomicU64::new(0), AtomicU64::new(0)];
     let play = |at: usize, m: &mut Mutator<NoDisk>|
-        requires { MayCall (λ _. Some []) epoch.now.words m.now }
+        requires global { 1 ≡ epoch.now.words.start.began.globals }
+        requires may { MayCall (λ _. Some []) epoch.now.words m.now }
         ensures { MayCall (λ _. Some []) epoch.entry.now.words m.exit.now }
     {
         let found = if at == 0 { &first } else { &second };
-        meet(&here, 2);
+        signals.meet(2);
         store_and_load(rt, epoch, m, found);
     };
     thread::for_each_mut(rt, mutators, 2, &play);
@@ -205,7 +181,8 @@ fn both_store_and_load<R: Abort + Threads + Sync>(
 
 /// Makes the objects of each thread.
 fn make_all<R: Abort>(rt: &R, epoch: &Epoch, mutators: &mut [Mutator<NoDisk>])
-    requires { HasBegun (λ _. Some []) epoch.now.words mutators.old }
+    requires global { 1 ≡ epoch.now.words.start.began.globals }
+    requires begun { HasBegun (λ _. Some []) epoch.now.words mutators.old }
     ensures { HasBegun (λ _. Some []) epoch.now.words mutators.new }
 {
     for k in 0..mutators.len() {
@@ -216,56 +193,48 @@ fn make_all<R: Abort>(rt: &R, epoch: &Epoch, mutators: &mut [Mutator<NoDisk>])
 /// Lets two threads store and load so many times, and looks for an order each time.
 fn play_rounds<R: Abort + Threads + Sync>(
     rt: &R,
+    alloc: Global,
     epoch: &Epoch,
     mutators: &mut [Mutator<NoDisk>],
     rounds: u32,
-)
-    requires { HasBegun (λ _. Some []) epoch.now.words mutators.old }
+) -> Result<(), Fail>
+    requires global { 1 ≡ epoch.now.words.start.began.globals }
+    requires begun { HasBegun (λ _. Some []) epoch.now.words mutators.old }
     ensures { HasBegun (λ _. Some []) epoch.now.words mutators.new }
 {
     for round in 0..rounds {
         let [first, second] = both_store_and_load(rt, epoch, mutators);
-        assert!(rt; stand_in_an_order(first, second), "round {round}");
+        let is_ordered = is_legal(alloc, &first, &second)?;
+        same((round, is_ordered), (round, true))?;
     }
+    Ok(())
 }
 
 #[test]
-fn what_two_threads_find_in_a_global_stands_in_an_order(rt: HostRuntime) {
+fn what_two_threads_find_in_a_global_stands_in_an_order(rt: HostRuntime) -> Result<(), Fail> {
     let mut mutators = two_mutators();
-    let epoch = begun(&rt, rt.alloc(), 64, 1, 0, &mut mutators);
+    let epoch = begun(rt.alloc(), 64, 1, 0, &mut mutators)?;
     make_all(&rt, &epoch, &mut mutators);
-    play_rounds(&rt, &epoch, &mut mutators, 1000);
+    let compared = play_rounds(&rt, rt.alloc(), &epoch, &mut mutators, 1000);
     let (heap, _pass) = epoch.finish(&mut mutators);
-    let used = heap.space.used();
-    assert_eq!(rt; used, 12);
-    free_two(&rt, mutators);
+    compared?;
+    same(heap.space.used(), 12)
 }
 
 #[test]
-fn an_order_of_calls_is_told(rt: HostRuntime) {
-    let stores = [Did::Store(1), Did::Store(2), Did::Store(1), Did::Store(2)];
-    for (finds, wanted) in [
-        (
-            [Did::Find(0), Did::Find(1), Did::Find(2), Did::Find(1)],
-            true,
-        ),
-        (
-            [Did::Find(2), Did::Find(1), Did::Find(2), Did::Find(2)],
-            true,
-        ),
-        (
-            [Did::Find(2), Did::Find(1), Did::Find(2), Did::Find(1)],
-            false,
-        ),
-        (
-            [Did::Find(1), Did::Find(0), Did::Find(1), Did::Find(1)],
-            false,
-        ),
-        (
-            [Did::Find(3), Did::Find(2), Did::Find(2), Did::Find(2)],
-            false,
-        ),
+fn an_order_of_calls_is_told(rt: HostRuntime) -> Result<(), Fail> {
+    let first = [stored(1), stored(2), stored(1), stored(2)];
+    for (numbers, wanted) in [
+        ([0, 1, 2, 1], true),
+        ([2, 1, 2, 2], true),
+        ([2, 1, 2, 1], false),
+        ([1, 0, 1, 1], false),
+        ([3, 2, 2, 2], false),
     ] {
-        assert_eq!(rt; stand_in_an_order(stores, finds), wanted);
+        let [a, b, c, d] = numbers;
+        let second = [found(a), found(b), found(c), found(d)];
+        let is_ordered = is_legal(rt.alloc(), &first, &second)?;
+        same((numbers, is_ordered), (numbers, wanted))?;
     }
+    Ok(())
 }

@@ -1,6 +1,6 @@
 use Rattle.std.specs.Prelude.{Some, []}
-use Rattle.melt_epoch_tests.specs.declared.tests.epoch.given.NoDisk.{NoDisk}
 use Rattle.melt_epoch.proofs.Empty.{eight_may_start}
+use Rattle.melt_epoch_tests.specs.declared.tests.epoch.given.NoDisk.{NoDisk}
 use Rattle.melt_epoch_tests.proofs.tests.epoch.given.eight_mutators.Goals as goal
 
 pub returns : goal.returns

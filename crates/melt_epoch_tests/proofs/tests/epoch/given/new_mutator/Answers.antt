@@ -1,8 +1,8 @@
 use Rattle.std.proofs.Common.{refl, ◌∙◌, ap}
 use Rattle.std.specs.Prelude.{Some, []}
 use Rattle.melt_epoch.specs.declared.mutator.Mutator.{Mutator}
-use Rattle.melt_epoch_tests.specs.declared.tests.epoch.given.NoDisk.{NoDisk}
 use Rattle.melt_epoch.proofs.Empty.{new_may_start}
+use Rattle.melt_epoch_tests.specs.declared.tests.epoch.given.NoDisk.{NoDisk}
 use Rattle.melt_epoch_tests.proofs.tests.epoch.given.new_mutator.Goals as goal
 
 pub returns-clause-may_start : goal.returns-clause-may_start

@@ -1,7 +1,7 @@
 use Rattle.std.proofs.Common.{◌≡◌, sym, ◌∙◌}
 use Rattle.std.specs.Prelude.{Some, []}
-use Rattle.melt_epoch_tests.specs.declared.tests.epoch.given.NoDisk.{NoDisk}
 use Rattle.melt_epoch.proofs.Empty.{two_may_start}
+use Rattle.melt_epoch_tests.specs.declared.tests.epoch.given.NoDisk.{NoDisk}
 use Rattle.melt_epoch_tests.proofs.tests.epoch.given.two_mutators.Goals as goal
 
 pub returns : goal.returns
