@@ -113,9 +113,20 @@ fn object(number: u8) -> [Op; 2] {
 /// What threads were told, what register `r` of each holds, and the heap behind them.
 #[derive(Drop)]
 pub(super) struct Ended<'d> {
-    pub(super) logs: Vec<Log>,
+    pub(super) logs: [Log; 8],
     pub(super) held: [u32; 8],
     pub(super) world: World<'d, MemDisk>,
+}
+
+/// The same, where the heap is done with.
+#[derive(Clone, Copy)]
+pub(super) struct Left {
+    /// How many words were in use before the threads came.
+    pub(super) used: u32,
+    pub(super) logs: [Log; 8],
+    pub(super) held: [u32; 8],
+    /// How many objects came back from the disk.
+    pub(super) returned: Option<usize>,
 }
 
 /// A reader with a flaw, before its first read.
@@ -172,11 +183,32 @@ pub(super) fn run<'d, T: Threads + Wait + Sync>(
     let mut world = world;
     let readers = first_flawed(world.lend(alloc)?, &signals, flaw)?;
     let mut stage = world.begin(alloc, readers)?;
-    let told = stage.play(rt, &signals, &lists);
+    let logs = stage.play(rt, &signals, &lists);
     let held = stage.held(r);
     let world = stage.finish();
-    let logs = Vec::from_slice(alloc, &told)?;
     Ok(Ended { logs, held, world })
+}
+
+/// Runs them over what was done before.
+pub(super) fn run_behind<T: Threads + Wait + Sync>(
+    rt: &T,
+    alloc: Global,
+    before: &Before<'_>,
+    flaw: Flaw,
+    programs: &[&[Step]],
+    r: usize,
+) -> Result<Left, Trouble> {
+    let mut disk = MemDisk::new(alloc);
+    let world = world_behind(alloc, &mut disk, before)?;
+    let used = world.used();
+    let Ended { logs, held, world } = run(rt, alloc, world, flaw, programs, r)?;
+    let returned = world.returned();
+    Ok(Left {
+        used,
+        logs,
+        held,
+        returned,
+    })
 }
 
 /// What call `at` of a thread came to.

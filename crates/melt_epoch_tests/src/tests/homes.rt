@@ -2,7 +2,7 @@ ghost use Rattle.std.specs.Prelude.{[], IfOk};
 ghost use Rattle.melt_move.specs.Collecting.{IsFormedOn};
 
 use super::calls::gload;
-use super::given::{Before, Ended, Flaw, result, run, world_behind};
+use super::given::{Before, Ended, Flaw, result, run, run_behind, world_behind};
 use crate::play::Step::{self, Await, Call, Raise};
 use crate::world::World;
 use melt_core::{Pause, Refusal};
@@ -36,20 +36,17 @@ const ONE: Before<'static> = Before {
 
 #[test]
 fn two_loads_of_one_home_find_one_object(rt: HostRuntime) -> Result<(), Fail> {
-    let alloc = rt.alloc();
-    let mut disk = MemDisk::new(alloc);
-    let world = world_behind(alloc, &mut disk, &ONE)?;
-    same(world.used(), 0)?;
     let first = [Call(gload(0, 0))];
     let second = [Call(gload(0, 1))];
     let programs: [&[Step]; 2] = [&first, &second];
-    let Ended { logs, held, world } = run(&rt, alloc, world, Flaw::Nothing, &programs, 0)?;
+    let left = run_behind(&rt, rt.alloc(), &ONE, Flaw::Nothing, &programs, 0)?;
+    same(left.used, 0)?;
     for k in 0..2 {
-        same((k, result(&logs, k, 0)?), (k, Ok(Reply::Ref)))?;
+        same((k, result(&left.logs, k, 0)?), (k, Ok(Reply::Ref)))?;
     }
-    same(held[0] != 0, true)?;
-    same(held[0], held[1])?;
-    same(world.returned(), Some(1))
+    same(left.held[0] != 0, true)?;
+    same(left.held[0], left.held[1])?;
+    same(left.returned, Some(1))
 }
 
 /// Lets eight threads load one global each, all at once, and looks that they find one object.
@@ -112,10 +109,7 @@ const THREE: Before<'static> = Before {
 
 #[test]
 fn one_home_more_than_there_are_forwarding_words_stops_all(rt: HostRuntime) -> Result<(), Fail> {
-    let alloc = rt.alloc();
     for _ in 0..20 {
-        let mut disk = MemDisk::new(alloc);
-        let world = world_behind(alloc, &mut disk, &THREE)?;
         let first = [
             Call(gload(0, 0)),
             Raise(0),
@@ -138,45 +132,34 @@ fn one_home_more_than_there_are_forwarding_words_stops_all(rt: HostRuntime) -> R
             Call(gload(0, 2)),
         ];
         let programs: [&[Step]; 3] = [&first, &second, &third];
-        let Ended {
-            logs,
-            held: _,
-            world,
-        } = run(&rt, alloc, world, Flaw::Nothing, &programs, 0)?;
+        let left = run_behind(&rt, rt.alloc(), &THREE, Flaw::Nothing, &programs, 0)?;
         let (mut found, mut full) = (0_u32, 0_u32);
         for k in 0..3 {
-            match result(&logs, k, 0)? {
+            match result(&left.logs, k, 0)? {
                 Ok(Reply::Ref) => found = found.saturating_add(1),
                 Err(Refusal::Pause(Pause::Forward)) => full = full.saturating_add(1),
                 _ => {}
             }
             let asked = Err(Refusal::Pause(Pause::Asked));
-            same((k, result(&logs, k, 1)?), (k, asked))?;
+            same((k, result(&left.logs, k, 1)?), (k, asked))?;
         }
         same((found, full), (2, 1))?;
-        same(world.returned(), Some(2))?;
+        same(left.returned, Some(2))?;
     }
     Ok(())
 }
 
 #[test]
 fn as_many_homes_as_forwarding_words_come_back(rt: HostRuntime) -> Result<(), Fail> {
-    let alloc = rt.alloc();
-    let mut disk = MemDisk::new(alloc);
-    let world = world_behind(alloc, &mut disk, &THREE)?;
     let first = [Call(gload(0, 0)), Call(gload(0, 1))];
     let second = [Call(gload(0, 1)), Call(gload(0, 0))];
     let programs: [&[Step]; 2] = [&first, &second];
-    let Ended {
-        logs,
-        held: _,
-        world,
-    } = run(&rt, alloc, world, Flaw::Nothing, &programs, 0)?;
+    let left = run_behind(&rt, rt.alloc(), &THREE, Flaw::Nothing, &programs, 0)?;
     for k in 0..2 {
         for at in 0..2 {
-            let told = result(&logs, k, at)?;
+            let told = result(&left.logs, k, at)?;
             same((k, at, told), (k, at, Ok(Reply::Ref)))?;
         }
     }
-    same(world.returned(), Some(2))
+    same(left.returned, Some(2))
 }

@@ -1,32 +1,12 @@
 use super::calls::{gload, gstore, load, store};
-use super::given::{Before, Ended, Flaw, result, run, told, world_behind};
+use super::given::{Before, Flaw, result, run_behind, told};
 use crate::play::Step::{self, Await, Call, Raise};
 use crate::told::Told;
-use crate::trouble::Trouble;
 use melt_core::Refusal;
-use melt_io::MemDisk;
 use melt_model::{Op, Reply};
 use melt_record::Damaged;
 use melt_same::same;
-use std::alloc::Global;
-use std::sync::Wait;
 use std::test::Fail;
-use std::thread::Threads;
-
-/// Runs two threads over what was done before. The first has a reader with a flaw. Looks at a register of each in the
-/// end.
-fn run_two<'d, T: Threads + Wait + Sync>(
-    rt: &T,
-    alloc: Global,
-    disk: &'d mut MemDisk,
-    before: &Before<'_>,
-    flaw: Flaw,
-    programs: &[&[Step]],
-    r: usize,
-) -> Result<Ended<'d>, Trouble> {
-    let world = world_behind(alloc, disk, before)?;
-    run(rt, alloc, world, flaw, programs, r)
-}
 
 /// Whether a call was made while the other was.
 fn is_within(call: Told, other: Told) -> bool {
@@ -51,24 +31,15 @@ const STUB: Before<'static> = Before {
 
 #[test]
 fn the_object_of_a_stub_is_cleared_while_the_stub_is_read(rt: HostRuntime) -> Result<(), Fail> {
-    let alloc = rt.alloc();
-    let mut disk = MemDisk::new(alloc);
     let first = [Call(gload(0, 0)), Call(load(1, 0, 0))];
     let second = [Await(0), Call(gload(1, 1)), Raise(1)];
-    let Ended { logs, held, world } = run_two(
-        &rt,
-        alloc,
-        &mut disk,
-        &STUB,
-        Flaw::Waits(3),
-        &[&first, &second],
-        1,
-    )?;
-    let [first, second] = [told(&logs, 0, 1)?, told(&logs, 1, 0)?];
+    let programs: [&[Step]; 2] = [&first, &second];
+    let left = run_behind(&rt, rt.alloc(), &STUB, Flaw::Waits(3), &programs, 1)?;
+    let [first, second] = [told(&left.logs, 0, 1)?, told(&left.logs, 1, 0)?];
     same([first.found, second.found], [Some(2), Some(2)])?;
     same(is_within(second, first), true)?;
-    same(held[0], held[1])?;
-    same(world.returned(), Some(1))
+    same(left.held[0], left.held[1])?;
+    same(left.returned, Some(1))
 }
 
 /// Two objects, each of which is held by a global.
@@ -81,7 +52,6 @@ const TWO: Before<'static> = Before {
 
 #[test]
 fn a_reader_fails_or_lies_for_one_thread_alone(rt: HostRuntime) -> Result<(), Fail> {
-    let alloc = rt.alloc();
     let damaged = |at, word| Refusal::Damaged(Damaged { home: 1, at, word });
     for (flaw, refusal) in [
         (Flaw::Fails(1), Refusal::DiskFault),
@@ -91,18 +61,14 @@ fn a_reader_fails_or_lies_for_one_thread_alone(rt: HostRuntime) -> Result<(), Fa
     ] {
         let first = [Call(gload(0, 0)), Call(gload(0, 0))];
         let second = [Call(gload(0, 1)), Call(gload(1, 1))];
-        let mut disk = MemDisk::new(alloc);
-        let Ended {
-            logs,
-            held: _,
-            world,
-        } = run_two(&rt, alloc, &mut disk, &TWO, flaw, &[&first, &second], 0)?;
-        same(result(&logs, 0, 0)?, Err(refusal))?;
-        let again = told(&logs, 0, 1)?;
-        let [first, second] = [told(&logs, 1, 0)?, told(&logs, 1, 1)?];
+        let programs: [&[Step]; 2] = [&first, &second];
+        let left = run_behind(&rt, rt.alloc(), &TWO, flaw, &programs, 0)?;
+        same(result(&left.logs, 0, 0)?, Err(refusal))?;
+        let again = told(&left.logs, 0, 1)?;
+        let [first, second] = [told(&left.logs, 1, 0)?, told(&left.logs, 1, 1)?];
         same(again.found, Some(1))?;
         same([first.found, second.found], [Some(2), Some(2)])?;
-        same(world.returned(), Some(2))?;
+        same(left.returned, Some(2))?;
     }
     Ok(())
 }
@@ -126,7 +92,6 @@ const SLOT: Before<'static> = Before {
 
 #[test]
 fn a_load_finds_what_was_stored_while_it_read_the_record(rt: HostRuntime) -> Result<(), Fail> {
-    let alloc = rt.alloc();
     let hold = [Call(gload(0, 0)), Call(gload(1, 1)), Await(0)];
     for (looked, stored, found) in [
         (load(3, 0, 0), store(0, 0, 1), Some(3)),
@@ -137,24 +102,19 @@ fn a_load_finds_what_was_stored_while_it_read_the_record(rt: HostRuntime) -> Res
     ] {
         let first = [Call(gload(0, 0)), Call(looked), Call(load(4, 3, 0))];
         let second = [hold[0], hold[1], hold[2], Call(stored), Raise(1)];
-        let mut disk = MemDisk::new(alloc);
         let programs: [&[Step]; 2] = [&first, &second];
-        let Ended {
-            logs,
-            held: _,
-            world,
-        } = run_two(&rt, alloc, &mut disk, &SLOT, Flaw::Waits(1), &programs, 3)?;
+        let left = run_behind(&rt, rt.alloc(), &SLOT, Flaw::Waits(1), &programs, 3)?;
         let reply = if found.is_some() {
             Reply::Ref
         } else {
             Reply::Null
         };
-        let [looked, stored] = [told(&logs, 0, 1)?, told(&logs, 1, 2)?];
+        let [looked, stored] = [told(&left.logs, 0, 1)?, told(&left.logs, 1, 2)?];
         same((looked.result, looked.found), (Ok(reply), found))?;
         same(stored.result, Ok(Reply::Done))?;
         same(is_within(stored, looked), true)?;
         // The copy came into use all the same.
-        same(world.returned(), Some(1))?;
+        same(left.returned, Some(1))?;
     }
     Ok(())
 }
