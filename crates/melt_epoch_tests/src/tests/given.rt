@@ -113,17 +113,17 @@ fn object(number: u8) -> [Op; 2] {
 /// What threads were told, what register `r` of each holds, and the heap behind them.
 #[derive(Drop)]
 pub(super) struct Ended<'d> {
-    pub(super) logs: [Log; 8],
+    pub(super) logs: Vec<Log>,
     pub(super) held: [u32; 8],
     pub(super) world: World<'d, MemDisk>,
 }
 
 /// The same, where the heap is done with.
-#[derive(Clone, Copy)]
+#[derive(Drop)]
 pub(super) struct Left {
     /// How many words were in use before the threads came.
     pub(super) used: u32,
-    pub(super) logs: [Log; 8],
+    pub(super) logs: Vec<Log>,
     pub(super) held: [u32; 8],
     /// How many objects came back from the disk.
     pub(super) returned: Option<usize>,
@@ -183,9 +183,10 @@ pub(super) fn run<'d, T: Threads + Wait + Sync>(
     let mut world = world;
     let readers = first_flawed(world.lend(alloc)?, &signals, flaw)?;
     let mut stage = world.begin(alloc, readers)?;
-    let logs = stage.play(rt, &signals, &lists);
+    let told = stage.play(rt, &signals, &lists);
     let held = stage.held(r);
     let world = stage.finish();
+    let logs = Vec::from_slice(alloc, &told)?;
     Ok(Ended { logs, held, world })
 }
 
