@@ -2,7 +2,7 @@ ghost use Rattle.melt_model.specs.Config.{InRanges};
 
 use super::*;
 use melt_disk::StaleSpace;
-use melt_io::{StaleDisk, SteadyDisk};
+use melt_io::SteadyDisk;
 use melt_model::{Config, Report};
 use melt_pool::run_threads;
 
