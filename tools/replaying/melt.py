@@ -26,6 +26,7 @@ OPTIONS = "--forward", "--disk", "--mark", "--move", "--every"
 PLAIN = {"--disk": 2, "--mark": 100, "--move": 100}
 FORWARD = 1_024                # forwarding words, where --forward is not given
 
+SIGNALS = signal.SIGINT, signal.SIGTERM
 RAN, USAGE, BAD_TRACE, OUT_OF_HEAP, DISK_FULL = 0, 1, 2, 5, 6
 WITH_LINES = RAN, 4, OUT_OF_HEAP, DISK_FULL, 9
 OUTPUT = re.compile(
@@ -122,16 +123,13 @@ class Melt:
         words = [self.program, self.command, "--quiet", "--table", *(f"{name}={value}" for name, value in options.items())]
         with tempfile.TemporaryDirectory(prefix="melt-") as folder:
             before = processor_time()
-            try:
-                ran = subprocess.run(words, input=data, stdout=subprocess.PIPE, cwd=folder)
-            except OSError as error:
-                raise Told(FAILED, f"{self.program} cannot be run: {error.strerror}") from None
-            seconds, output = processor_time() - before, ran.stdout.decode(errors="replace")
-            if ran.returncode == USAGE and output == "error usage\n":
+            status, output = called(words, data, folder)
+            seconds = processor_time() - before
+            if status == USAGE and output == "error usage\n":
                 raise Told(WORDS, f"melt refuses these options: {' '.join(map(str, words[4:-1]))}. --help tells the words")
-            if ran.returncode == BAD_TRACE and output.startswith("error trace "):
+            if status == BAD_TRACE and output.startswith("error trace "):
                 raise Told(REFUSED, f"this is no trace: {output.strip()}", *self.told_by_script(data))
-            yield Replay(ran.returncode, seconds, lines_of(ran.returncode, output, threads), pathlib.Path(folder, "melt.stale"))
+            yield Replay(status, seconds, lines_of(status, output, threads), pathlib.Path(folder, "melt.stale"))
 
     def told_by_script(self, data, script=SCRIPT):
         """What the script says of a trace that is refused. It is asked only if it takes this program, since it builds one else."""
@@ -143,6 +141,27 @@ class Melt:
             told = subprocess.run([script, self.command], stdin=file, stdout=subprocess.DEVNULL, stderr=subprocess.PIPE, text=True,
                                   env={**os.environ, "MELT_PROGRAM": str(self.program), "MELT_TELL": "1"})
         return [line.removeprefix("melt: ") for line in told.stderr.splitlines()]
+
+
+def called(words, data, folder):
+    """The status and the output of a program in this folder. Where we are interrupted, it has ended before its folder goes: so a
+    signal that comes while it is started waits until it can be ended."""
+    ran, before = None, signal.pthread_sigmask(signal.SIG_BLOCK, SIGNALS)
+
+    def unblock():
+        signal.pthread_sigmask(signal.SIG_SETMASK, before)
+    try:
+        ran = subprocess.Popen(words, stdin=subprocess.PIPE, stdout=subprocess.PIPE, cwd=folder, preexec_fn=unblock)
+        unblock()
+        output, _ = ran.communicate(data)
+    except OSError as error:
+        raise Told(FAILED, f"{words[0]} cannot be run: {error.strerror}") from None
+    finally:
+        if ran and ran.poll() is None:
+            ran.kill()
+            ran.wait()
+        unblock()
+    return ran.returncode, output.decode(errors="replace")
 
 
 def processor_time():

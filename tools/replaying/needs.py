@@ -16,9 +16,10 @@ def plain_need(melt, trace):
                 raise Told(FAILED, failure(ran, heap))
             return ran.is_done
     count(melt, trace)
-    if not suffices(MOST_HEAP):
+    low = LEAST_HEAP
+    high = min(max(trace.words + 1, low), MOST_HEAP)       # a heap that has room for all that is ever made is never full
+    if not suffices(high):
         return None
-    low, high = LEAST_HEAP, MOST_HEAP
     while low < high:
         middle = (low + high) // 2
         low, high = (low, middle) if suffices(middle) else (middle + 1, high)

@@ -12,7 +12,7 @@ COLLECT = b"collect\n"
 class Trace:
     def __init__(self, data):
         self.data = data
-        self.operations = self.loads = 0     # with all blocks written out
+        self.operations = self.loads = self.words = 0      # with all blocks written out; words are those of all new objects
         self.dones = []        # the byte at which the line that ends a program begins, for each thread
 
     @property
@@ -27,6 +27,7 @@ class Trace:
             if word in OPERATIONS:
                 self.operations += times[-1]
                 self.loads += times[-1] if word in LOADS else 0
+                self.words += times[-1] * (2 + int(fields[1]) + int(fields[2])) if word == b"new" else 0
             elif word == b"repeat":
                 times.append(times[-1] * int(fields[0]))
             elif word == b"end":
