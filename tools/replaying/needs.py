@@ -62,10 +62,10 @@ class Search:
         bend = self.bend()
         if bend is None or bend == min(self.rows):
             return
-        low, high = bend // 2, min(2 * bend, max(self.rows))
+        least, most = min(self.rows), max(self.rows)
         for part in range(-7, 16):
             heap = bend + part * bend // 16
-            if max(low, LEAST_HEAP) <= heap < high:
+            if least < heap < most:
                 self.tries(heap)
 
     def bend(self):
