@@ -60,7 +60,7 @@ class Kinds:
                 raise ValueError
             if fields[0] == "object" and len(fields) == OBJECT:
                 return Row(identity, slots, numbers, made, count(fields[5]), count(fields[6]), *fields[7:])
-            if fields[0] == "cell" and len(fields) == CELL:
+            if fields[0] == "cell" and len(fields) == CELL and int(fields[5]) != identity:
                 return Row(int(fields[5]), slots, numbers, made, None, count(fields[6]))
             raise ValueError
         except ValueError:
