@@ -8,7 +8,7 @@ import subprocess
 import sys
 import time
 
-from tooling.replays import HEAPS, MELT, generated, heaps, program_that, rows_of, trace
+from tooling.replays import HEAPS, MELT, generated, heaps, loaded, program_that, rows_of, told_by, trace
 
 DRAWS = "#!/bin/sh\n/bin/cat\n"    # stands for gnuplot, and draws what it is told
 
@@ -29,15 +29,18 @@ def test_help(folder):
 
 def test_bad_words(folder):
     """Bad words are told with status 1, and nothing is run."""
-    path, marks = generated("list", 5), program_that("marks", "touch ran")
-    for words in ([], ["nowhere.trace"], ["."], ["--heap", "15", path], ["--from", "64k", path], ["--to", "4194305", path], ["--to"],
-                  ["--other", path], [path, path], ["--heap", "50", "--from", "60", path],
+    path, marks = str(generated("list", 5)), program_that("marks", "touch ran")
+    for words in ([], ["nowhere.trace"], ["."], ["--heap", "15", path], ["--heap", "64k", path], ["--heap", "4194305", path], ["--to"],
+                  ["--from", "-1", path], ["--other", path], [path, path], ["--heap", "50", "--from", "60", path],
                   ["--from", "50", "--to", "60", path], [path, "--", "--heap", "50"], [path, "--", "--quiet"], [path, "--", "--log"],
                   [path, "--", "--every", "5", "--every", "6"], [path, "--", "x"], ["--", path]):
+        status, told = told_by(loaded(HEAPS).words_of, words)
+        assert status == 1 and told.endswith("--help tells the words"), (words, told)
+    for words in ([], ["--heap", "15", path]):
         ran = heaps(*words, melt=marks)
         assert ran.status == 1 and ran.told.startswith("heaps: ") and not ran.out, (words, ran)
     assert not os.path.exists("ran")
-    for words in (["--every", "0"], ["--every"], ["--mark=90", "--move=80"], ["--disk=x"]):
+    for words in (["--every", "0"], ["--mark=90", "--move=80"]):
         ran = heaps(path, "--", *words)
         assert ran.status == 1 and "melt refuses these options" in ran.told and not ran.out, (words, ran)
 
@@ -76,14 +79,14 @@ def test_no_program(folder):
     pathlib.Path("empty").touch(0o755)
     pathlib.Path("binary").write_bytes(b"\x7fELF")
     os.chmod("binary", 0o755)
-    for program in ("nowhere", ".", path, "empty", "binary"):
+    for program in ("nowhere", ".", "empty", "binary"):
         ran = heaps(path, melt=program)
         assert ran.status == 3 and ran.told and not ran.out, (program, ran)
 
 
 def test_runs_that_fail(folder):
     """A run that is killed, lacks lines, is wrong or leaves a bad file is told in its row, with status 3; the others are as ever."""
-    path = generated("list", 60)
+    path = generated("list", 20)
     for name, does, told in (
             ("killed", "kill -9 $$", "killed by SIGKILL"), ("prints nothing", "exit 0", "0 and its lines are not whole"),
             ("no memory", "exit 8", "8 and its lines are not whole"), ("cut", '"$MELT" "$@" | head -c -3', "0 and its lines are not whole"),
@@ -91,13 +94,13 @@ def test_runs_that_fail(folder):
             ("has no file", '"$MELT" "$@"; rm melt.stale', "0 and a bad melt.stale, word 1"),
             ("zeros", '"$MELT" "$@"; truncate -s 8 melt.stale; truncate -s 80000 melt.stale', "0 and a bad melt.stale, word 1"),
             ("full disk", 'ulimit -f 0; trap "" XFSZ; "$MELT" "$@"', "4 end halted")):
-        melt = program_that("fails", f'if [[ $heap == 150 ]]; then {does}; exit; fi; exec "$MELT" "$@"')
-        ran = heaps("--csv", "--heap", 150, path, melt=melt)
+        melt = program_that("fails", f'if [[ $# == 4 && $heap == 60 ]]; then {does}; exit; fi; exec "$MELT" "$@"')
+        ran = heaps("--csv", "--heap", 60, path, melt=melt)
         row, = rows_of(ran.out)
         assert ran.status == 3 and row["end"].startswith(told) and row["left"] == "-", (name, ran)
-        assert f"the run in a heap of 150 words failed: {told}" in ran.told, (name, ran)
-    good, rows = ({row["heap"]: row for row in rows_of(heaps("--csv", "--to", 150, path, melt=name).out)} for name in (MELT, melt))
-    assert good.keys() == rows.keys() and [heap for heap in rows if rows[heap]["left"] != good[heap]["left"]] == ["150"], rows
+        assert f"the run in a heap of 60 words failed: {told}" in ran.told, (name, ran)
+    good, rows = ({row["heap"]: row["left"] for row in rows_of(heaps("--csv", "--to", 60, path, melt=name).out)} for name in (MELT, melt))
+    assert rows.pop("60") == "-" and rows and all(good[heap] == rows[heap] for heap in good.keys() & rows.keys()), (good, rows)
 
 
 def test_wrong_sum(folder):

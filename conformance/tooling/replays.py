@@ -1,5 +1,7 @@
 """Runs tools/heaps and tools/who on small traces, by the program, by the model, or by a program that fails."""
 import csv
+import importlib.machinery
+import importlib.util
 import os
 import pathlib
 import shlex
@@ -36,6 +38,26 @@ def heaps(*words, **given):
 
 def who(*words, **given):
     return tool(WHO, *words, **given)
+
+
+def loaded(path):
+    """A tool as a module, of which parts are called here: many words are tried in the time of one start."""
+    name = f"tool_{path.name}"
+    if name not in sys.modules:
+        loader = importlib.machinery.SourceFileLoader(name, str(path))
+        sys.modules[name] = module = importlib.util.module_from_spec(importlib.util.spec_from_loader(name, loader))
+        loader.exec_module(module)
+    return sys.modules[name]
+
+
+def told_by(function, *arguments):
+    """How a part of a tool ends it: the status, and what is told."""
+    from replaying.words import Told
+    try:
+        function(*arguments)
+    except Told as told:
+        return told.status, " ".join(told.sentences)
+    return 0, ""
 
 
 def rows_of(text):
