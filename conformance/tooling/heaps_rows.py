@@ -32,7 +32,7 @@ def compare(path, rows, *words):
 def test_came_back(folder):
     """What came back is what the model counts, for all kinds of traces from a number."""
     for kind in ("list", "queue", "table", "tree"):
-        path = generated(kind, 120)
+        path = generated(kind, 80)
         ran = heaps("--csv", path)
         rows = rows_of(ran.out)
         assert ran.status == 0 and list(rows[0]) == COLUMNS and len(rows) > 4, ran
@@ -59,11 +59,10 @@ def test_came_back_in_threads(folder):
 
 def test_run(folder):
     """--run has real threads, and the same rows where there is one."""
-    path = generated("table", 100)
+    path = generated("table", 60)
     by_step, by_run = (rows_of(heaps("--csv", *words, path).out) for words in ([], ["--run"]))
     assert [{**row, "seconds": 0} for row in by_step] == [{**row, "seconds": 0} for row in by_run]
-    threads = generated("list", 60, threads=4)
-    ran = heaps("--run", threads)
+    ran = heaps("--run", "--heap", 200, generated("list", 40, threads=4))
     assert ran.status == 0 and "by run" in ran.out, ran
 
 

@@ -84,23 +84,33 @@ def test_no_program(folder):
         assert ran.status == 3 and ran.told and not ran.out, (program, ran)
 
 
+FAILS = {                      # by the heap: what a run does, and how its row says so
+    640: ("kill -9 $$", "killed by SIGKILL"), 320: ("exit 0", "0 and its lines are not whole"),
+    160: ('"$MELT" "$@" | head -c -3', "0 and its lines are not whole"), 80: ("exit 8", "8 and its lines are not whole"),
+    40: ('"$MELT" "$@"; rm melt.stale', "0 and a bad melt.stale, word 1"), 20: ('"$MELT" "$@"; exit 5', "5 and its lines are not whole"),
+    16: ('ulimit -f 0; trap "" XFSZ; "$MELT" "$@"', "4 end halted"),
+}
+
+
 def test_runs_that_fail(folder):
-    """A run that is killed, lacks lines, is wrong or leaves a bad file is told in its row, with status 3; the others are as ever."""
-    path = generated("list", 20)
-    for name, does, told in (
-            ("killed", "kill -9 $$", "killed by SIGKILL"), ("prints nothing", "exit 0", "0 and its lines are not whole"),
-            ("no memory", "exit 8", "8 and its lines are not whole"), ("cut", '"$MELT" "$@" | head -c -3', "0 and its lines are not whole"),
-            ("says done", '"$MELT" "$@"; exit 5', "5 and its lines are not whole"),
-            ("has no file", '"$MELT" "$@"; rm melt.stale', "0 and a bad melt.stale, word 1"),
-            ("zeros", '"$MELT" "$@"; truncate -s 8 melt.stale; truncate -s 80000 melt.stale', "0 and a bad melt.stale, word 1"),
-            ("full disk", 'ulimit -f 0; trap "" XFSZ; "$MELT" "$@"', "4 end halted")):
-        melt = program_that("fails", f'if [[ $# == 4 && $heap == 60 ]]; then {does}; exit; fi; exec "$MELT" "$@"')
-        ran = heaps("--csv", "--heap", 60, path, melt=melt)
-        row, = rows_of(ran.out)
-        assert ran.status == 3 and row["end"].startswith(told) and row["left"] == "-", (name, ran)
-        assert f"the run in a heap of 60 words failed: {told}" in ran.told, (name, ran)
-    good, rows = ({row["heap"]: row["left"] for row in rows_of(heaps("--csv", "--to", 60, path, melt=name).out)} for name in (MELT, melt))
-    assert rows.pop("60") == "-" and rows and all(good[heap] == rows[heap] for heap in good.keys() & rows.keys()), (good, rows)
+    """A run that is killed, prints nothing or half, or leaves no file is told in its row, with status 3; the others are as ever."""
+    path, cases = generated("list", 100), "".join(f"4,{heap}) {does}; exit;;" for heap, (does, _) in FAILS.items())
+    melt = program_that("fails", f'case $#,$heap in {cases} esac; exec "$MELT" "$@"')
+    ran = heaps("--csv", "--from", 1280, "--to", 16, path, melt=melt)
+    rows = {int(row["heap"]): row for row in rows_of(ran.out)}
+    assert ran.status == 3 and all(row["end"] == "0" and row["left"] == "0" for heap, row in rows.items() if heap not in FAILS), ran
+    for heap, (_, told) in FAILS.items():
+        assert rows[heap]["end"].startswith(told) and rows[heap]["left"] == "-", (heap, ran)
+        assert f"the run in a heap of {heap} words failed: {told}" in ran.told, (heap, ran)
+
+
+def test_bad_file(folder):
+    """So is a file that is no disk of this run, also where it is longer or shorter than the table has it."""
+    for does, told in (("truncate -s 8 melt.stale; truncate -s 8000 melt.stale", "word 1: "), ("truncate -s -8 melt.stale", "word 76: "),
+                       ("truncate -s +1 melt.stale", "word 81: ")):
+        melt = program_that("fails", f'"$MELT" "$@"; status=$?; [[ $# == 4 && -e melt.stale ]] && {does}; exit $status')
+        ran = heaps("--csv", "--heap", 90, generated("list", 20), melt=melt)
+        assert ran.status == 3 and rows_of(ran.out)[0]["end"].startswith(f"0 and a bad melt.stale, {told}"), (does, ran)
 
 
 def test_wrong_sum(folder):

@@ -212,10 +212,11 @@ def test_who_replay_fails(folder):
     trace("shop", "new 1 0 0")
     ran = who("shop.kinds")
     assert ran.status == 2 and "30" in ran.told and "1 operations" in ran.told, ran
-    trace("shop", "repeat 15", "new 1 0 62", "gstore 0 1", "end")
+    trace("shop", "repeat 15", "new 1 0 0", "gstore 0 1", "end")
     for does, status, told in (("kill -9 $$", 3, "killed by SIGKILL"), ("exit 0", 3, "not whole"), ("exit 4", 3, "4 and")):
         ran = who("shop.kinds", melt=program_that("fails", f'if (($# == 4)); then {does}; fi; exec "$MELT" "$@"'))
         assert ran.status == status and told in ran.told and not ran.out, ran
+    trace("shop", "repeat 15", "new 1 0 62", "gstore 0 1", "end")
     ran = who("shop.kinds")
     assert ran.status == 0 and "with status 5 end out-of-heap" in ran.out and "nothing has moved" in ran.out, ran
     assert who("shop.kinds", melt="nowhere").status == 3
