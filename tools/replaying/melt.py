@@ -1,7 +1,7 @@
 """Runs of the program, each in a folder of its own, so that none meets the disk of another.
 
-What a run printed is taken as a whole or not at all: of a run that was killed, or whose lines are not those that docs/FORMATS.md has for its
-status, nothing is believed.
+What a run printed is taken as a whole or not at all: of a run that was killed, or whose lines are not those that docs/FORMATS.md has
+for its status, nothing is believed.
 """
 import contextlib
 import os

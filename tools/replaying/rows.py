@@ -48,49 +48,50 @@ class Row(NamedTuple):
     end: str
     uses: int
     is_done: bool
-    is_settled: bool           # whether all that came back is counted
     fault: str                 # why it says nothing of the heap, or nothing
     collections: int = 0
     left: int = 0
     came_back: int = 0
+    more: int = 0              # so many more can have come back at most: they were not settled
     in_use: int = 0
     held: int = 0
     on_disk: int = 0
 
     @property
     def is_little(self):
-        return self.is_done and not self.fault and (LITTLE * self.came_back < self.uses or not self.came_back)
+        came_back = self.came_back + self.more
+        return self.is_done and not self.fault and (LITTLE * came_back < self.uses or not came_back)
 
-    def counts(self, more=""):
+    def counts(self):
         percent = f"{100 * self.came_back / self.uses:.2f}" if self.uses and self.is_done else "-"
-        return [str(self.collections), str(self.left), f"{self.came_back}{more}", percent, str(self.in_use), str(self.held),
-                str(self.on_disk)]
+        return [self.collections, self.left, self.came_back, percent, self.in_use, self.held, self.on_disk]
 
     def cells(self, for_program=False):
-        """A + says that more may have come back than could be counted."""
-        more = "" if self.is_settled or for_program else "+"
-        counts = ["-"] * 7 if self.fault else self.counts(more)
+        """The row as texts. To a person a + says that more can have come back."""
+        counts = ["-"] * 7 if self.fault else [str(count) for count in self.counts()]
+        if self.more and not for_program:
+            counts[2] += "+"
         return [str(self.heap), *counts, f"{self.seconds:.3f}", self.end]
 
 
-def row_of(replay, heap, uses, has_collect):
-    """The row of a run, which may have failed: its `end` says so then."""
-    known = {"heap": heap, "seconds": replay.seconds, "uses": uses.number, "is_done": replay.is_done,
-             "is_settled": replay.is_done and has_collect}
+def row_of(replay, heap, uses, unsettled):
+    """The row of a run, which may have failed: its `end` says so then. `unsettled` objects can be back without a Stub in the end,
+    where there was no collection behind the last operation."""
+    known = {"heap": heap, "seconds": replay.seconds, "uses": uses.number, "is_done": replay.is_done}
     if not replay.tells_of_heap:
         return Row(**known, end=replay.end, fault=replay.end)
     if replay.is_done and uses.sum is not None and replay.lines.sums != [uses.sum]:
         wrong = f"{replay.end} and a sum of {replay.lines.sums[0]} in the place of {uses.sum}"
         return Row(**known, end=wrong, fault=wrong)
     try:
-        return Row(**known, end=replay.end, fault="", **counts_of(replay.lines, replay.stale))
+        return Row(**known, end=replay.end, fault="", **counts_of(replay.lines, replay.stale, unsettled))
     except BadRecord as bad:
         wrong = f"{replay.end} and a bad melt.stale, {bad}"
         return Row(**known, end=wrong, fault=wrong)
 
 
-def counts_of(lines: Lines, stale):
-    """What the table of collections says, and the file that the run left."""
+def counts_of(lines: Lines, stale, unsettled):
+    """What the table of collections says, and the file that the run left. What is back without a Stub still has its Body."""
     rows = lines.collections
     end = rows[-1].end if rows else 1
     left = sum(row.bodies for row in rows)
@@ -98,5 +99,5 @@ def counts_of(lines: Lines, stale):
     if words is None:
         raise BadRecord(1, "there is no file, and the table has records")
     on_disk = sum(1 for _ in bodies(words, end))
-    return {"collections": len(rows), "left": left, "came_back": left - on_disk, "in_use": max((row.live for row in rows), default=0),
-            "held": max((row.held for row in rows), default=0), "on_disk": end - 1}
+    return {"collections": len(rows), "left": left, "came_back": left - on_disk, "more": min(unsettled, on_disk), "on_disk": end - 1,
+            "in_use": max((row.live for row in rows), default=0), "held": max((row.held for row in rows), default=0)}
