@@ -4,7 +4,7 @@ import re
 
 from modelling.output import status_of
 from tooling.calls import MOVING, program, record
-from tooling.replays import PLAIN, counted, generated, heaps, is_done, rows_of, trace
+from tooling.replays import PLAIN, counted, generated, heaps, is_done, leave_file, rows_of, trace
 
 COLUMNS = ["heap", "collections", "left", "came_back", "percent", "in_use", "held", "on_disk", "seconds", "end"]
 KEEPS = """class Thing:
@@ -32,7 +32,7 @@ def compare(path, rows, *words):
 def test_came_back(folder):
     """What came back is what the model counts, for all kinds of traces from a number."""
     for kind in ("list", "queue", "table", "tree"):
-        path = generated(kind, 80)
+        path = generated(kind, 60)
         ran = heaps("--csv", path)
         rows = rows_of(ran.out)
         assert ran.status == 0 and list(rows[0]) == COLUMNS and len(rows) > 4, ran
@@ -42,9 +42,9 @@ def test_came_back(folder):
 
 def test_came_back_by_options(folder):
     """So it is with other options, where more moves, also by few forwarding words."""
-    path = generated("tree", 150)
-    for words in (MOVING, ["--mark=10", "--move=20", "--every=50", "--forward=3"], ["--disk", "300"]):
-        rows = rows_of(heaps("--csv", "--from", 700, "--to", 60, path, "--", *words).out)
+    path = generated("tree", 80)
+    for words in (MOVING, ["--mark=10", "--move=20", "--every=50", "--forward=3"], ["--disk", "200"]):
+        rows = rows_of(heaps("--csv", "--from", 350, "--to", 40, path, "--", *words).out)
         compare(path, rows, *words)
         assert any(int(row["came_back"]) for row in rows), rows
 
@@ -129,7 +129,7 @@ def test_from_and_to(folder):
     assert {300, 150, 75, 37, 18, 16} <= set(tried), tried
     ran = heaps("--heap", 66, path)
     assert ran.status == 0 and ran.out.splitlines()[-3].split()[0] == "66" and "There is no heap" in ran.out, ran
-    assert re.search(r"\d\+ +- .* 5 end out-of-heap \d+ \d+$", ran.out.splitlines()[-3]), ran
+    assert re.search(r" - .* 5 end out-of-heap \d+ \d+$", ran.out.splitlines()[-3]), ran
     tried = [int(row["heap"]) for row in rows_of(heaps("--csv", "--to", 200, path).out)]
     assert min(tried) == 200 and len(tried) > 2, tried
 
@@ -148,6 +148,21 @@ def test_uses(folder):
     assert "blocks.trace: 29 operations, by step\n15 load and gload operations" in told, told
 
 
+def test_unsettled(folder):
+    """What is back without a Stub in the end is told as what can be more, and is never more than what has a Body."""
+    from replaying.melt import Lines, Replay
+    from replaying.rows import Uses, row_of
+    path = trace("back", "new 0 0 1", "gstore 0 0", "drop 0", "collect", "collect", "collect", "gload 0 0")
+    words = ["--heap=16", "--mark=0", "--move=0"]
+    for unsettled, more, is_little in ((0, 0, True), (1, 1, False), (1024, 1, False)):
+        found = counted(path, words, has_collects=False)
+        leave_file(path, *words)
+        lines = Lines([0], "", found.report.journal)
+        row = row_of(Replay(0, 0.0, lines, pathlib.Path("melt.stale")), 16, Uses(100, ""), unsettled)
+        assert (row.left, row.came_back, row.more, row.is_little) == (1, 0, more, is_little) and found.came_back == 1, row
+        assert row.cells()[3] == "0+"[:1 + more] and row.cells(for_program=True)[3] == "0", row
+
+
 def test_full_trace(folder):
     """A trace that is full has no collection added, and that is said."""
     from replaying.trace import MOST_OPERATIONS, Trace
@@ -160,4 +175,4 @@ def test_full_trace(folder):
     long = Trace(full.read_bytes() + b"#" * (16_777_216 - full.stat().st_size - 7))
     assert long.count() or long.settled() is None
     ran = heaps("--heap", 50, full)
-    assert ran.status == 0 and "no collection is added" in ran.out and re.search(r"50 +0 +0 +0\+ ", ran.out), ran
+    assert ran.status == 0 and "no collection is added" in ran.out and re.search(r"50 +0 +0 +0 ", ran.out), ran

@@ -45,7 +45,7 @@ def loaded(path):
     name = f"tool_{path.name}"
     if name not in sys.modules:
         loader = importlib.machinery.SourceFileLoader(name, str(path))
-        sys.modules[name] = module = importlib.util.module_from_spec(importlib.util.spec_from_loader(name, loader))
+        module = sys.modules[name] = importlib.util.module_from_spec(importlib.util.spec_from_loader(name, loader))
         loader.exec_module(module)
     return sys.modules[name]
 
@@ -86,6 +86,11 @@ def program_that(name, text):
     path.write_text(f"#!/bin/bash\nMELT={shlex.quote(str(MELT))}\nheap=${{@: -1}}; heap=${{heap#*=}}\n{text}\n")
     path.chmod(0o755)
     return path
+
+
+def leave_file(path, *words):
+    """Runs a trace here, which leaves its file melt.stale."""
+    subprocess.run([MELT, "step", *words], input=pathlib.Path(path).read_bytes(), stdout=subprocess.DEVNULL, check=True)
 
 
 class Counted(NamedTuple):

@@ -1,4 +1,5 @@
 """Tests of tools/who, on files that are written here word by word, and on what the program leaves."""
+import os
 import pathlib
 import random
 import re
@@ -8,7 +9,7 @@ from collections import Counter
 
 from tooling.calls import MOVING, program, record, rows
 from tooling.heaps_rows import KEEPS
-from tooling.replays import MELT, WHO, counted, heaps, loaded, program_that, rows_of, told_by, trace, who
+from tooling.replays import WHO, counted, heaps, leave_file, loaded, program_that, rows_of, told_by, trace, who
 
 # Three sessions and a dictionary of two cells of one place each, and a session of another place.
 KINDS = """kinds 1
@@ -159,13 +160,10 @@ def test_who_bad_words(folder):
         assert told_by(loaded(WHO).given_words, words)[0] == 1, words
     ran = who("shop.kinds")
     assert ran.status == 1 and ran.told.startswith("who: there is no file shop.trace") and not ran.out, ran
-    ran = who("shop.kinds", ".")
-    assert ran.status == 3 and ran.told and not ran.out, ran
-
-
-def leave_file(path, *words):
-    """Runs a trace here, which leaves its file melt.stale."""
-    subprocess.run([MELT, "step", *words], input=pathlib.Path(path).read_bytes(), stdout=subprocess.DEVNULL, check=True)
+    os.mkfifo("pipe")
+    for name in (".", "pipe"):
+        ran = who("shop.kinds", name)
+        assert ran.status == 2 and ran.told == f"who: {name} is no file\n" and not ran.out, ran
 
 
 def test_who_after_a_run(folder):
@@ -213,7 +211,7 @@ def test_who_replay_fails(folder):
     ran = who("shop.kinds")
     assert ran.status == 2 and "30" in ran.told and "1 operations" in ran.told, ran
     trace("shop", "repeat 15", "new 1 0 0", "gstore 0 1", "end")
-    for does, status, told in (("kill -9 $$", 3, "killed by SIGKILL"), ("exit 0", 3, "not whole"), ("exit 4", 3, "4 and")):
+    for does, status, told in (("kill -9 $$", 3, "killed by SIGKILL"), ("exit 0", 3, "not whole")):
         ran = who("shop.kinds", melt=program_that("fails", f'if (($# == 4)); then {does}; fi; exec "$MELT" "$@"'))
         assert ran.status == status and told in ran.told and not ran.out, ran
     trace("shop", "repeat 15", "new 1 0 62", "gstore 0 1", "end")
