@@ -29,7 +29,7 @@ def compare(path, rows, *words):
         assert came_back == found.came_back if status == 0 else came_back <= found.came_back <= came_back + 1024, (row, found.came_back)
 
 
-def test_came_back(folder):
+def test_heaps_came_back(folder):
     """What came back is what the model counts, for all kinds of traces from a number."""
     for kind in ("list", "queue", "table", "tree"):
         path = generated(kind, 60)
@@ -40,7 +40,7 @@ def test_came_back(folder):
         assert any(row["end"] == "0" and int(row["came_back"]) for row in rows), rows
 
 
-def test_came_back_by_options(folder):
+def test_heaps_came_back_by_options(folder):
     """So it is with other options, where more moves, also by few forwarding words."""
     path = generated("tree", 80)
     for words in (MOVING, ["--mark=10", "--move=20", "--every=50", "--forward=3"], ["--disk", "200"]):
@@ -49,7 +49,7 @@ def test_came_back_by_options(folder):
         assert any(int(row["came_back"]) for row in rows), rows
 
 
-def test_came_back_in_threads(folder):
+def test_heaps_came_back_in_threads(folder):
     """So it is of several threads, which all have a collection added."""
     path = generated("queue", 40, threads=3)
     ran = heaps("--csv", "--from", 1000, "--to", 120, path, "--", *MOVING)
@@ -57,7 +57,7 @@ def test_came_back_in_threads(folder):
     compare(path, rows_of(ran.out), *MOVING)
 
 
-def test_run(folder):
+def test_heaps_run(folder):
     """--run has real threads, and the same rows where there is one."""
     path = generated("table", 60)
     by_step, by_run = (rows_of(heaps("--csv", *words, path).out) for words in ([], ["--run"]))
@@ -66,7 +66,7 @@ def test_run(folder):
     assert ran.status == 0 and "by run" in ran.out, ran
 
 
-def test_plain_need(folder):
+def test_heaps_plain_need(folder):
     """In no smaller heap the trace ends done while nothing can move."""
     for kind, size in (("list", 20), ("queue", 30)):
         path = generated(kind, size)
@@ -79,7 +79,7 @@ def need_in(text):
     return int(re.search(r"^plain need: (\d+) words", text, re.MULTILINE)[1])
 
 
-def test_no_plain_need(folder):
+def test_heaps_no_plain_need(folder):
     """Where no heap suffices, that is said, and the largest is begun with. A heap of that size wants as many objects."""
     lines = ["new 1 1 0", "repeat 33900", "new 0 62 62", "store 0 0 1", "copy 1 0", "end", "gstore 0 1"]
     ran = heaps("--csv", "--heap", 4194304, trace("large", *lines), "--", "--mark=0", "--move=0")
@@ -87,7 +87,7 @@ def test_no_plain_need(folder):
     assert [row["heap"] for row in rows_of(ran.out)] == ["4194304"], ran.out
 
 
-def test_heaps_that_are_tried(folder):
+def test_heaps_tried(folder):
     """Halves from the plain need to a run that is not done; sixteenths around the bend; the last line tells of it."""
     path = generated("list", 200)
     ran = heaps("--csv", path)
@@ -122,7 +122,7 @@ def sentence(rows, need, uses):
     return f"From {last} words on, in every heap tried, fewer than one use in a hundred comes from the disk: {part}."
 
 
-def test_from_and_to(folder):
+def test_heaps_from_and_to(folder):
     """--from and --to say which halves are tried, also behind a run that is not done; --heap tries one."""
     path = generated("table", 100)
     tried = [int(row["heap"]) for row in rows_of(heaps("--csv", "--from", 300, "--to", 16, path).out)]
@@ -134,7 +134,7 @@ def test_from_and_to(folder):
     assert min(tried) == 200 and len(tried) > 2, tried
 
 
-def test_uses(folder):
+def test_heaps_uses(folder):
     """Uses are those that the recorder wrote down; or loads, with blocks written out."""
     record(program("keeps.py", KEEPS))
     ran = heaps("--csv", "--heap", 700, "keeps.trace")
@@ -148,7 +148,7 @@ def test_uses(folder):
     assert "blocks.trace: 29 operations, by step\n15 load and gload operations" in told, told
 
 
-def test_unsettled(folder):
+def test_heaps_unsettled(folder):
     """What is back without a Stub in the end is told as what can be more, and is never more than what has a Body."""
     from replaying.melt import Lines, Replay
     from replaying.rows import Uses, row_of
@@ -163,7 +163,7 @@ def test_unsettled(folder):
         assert row.cells()[3] == "0+"[:1 + more] and row.cells(for_program=True)[3] == "0", row
 
 
-def test_full_trace(folder):
+def test_heaps_full_trace(folder):
     """A trace that is full has no collection added, and that is said."""
     from replaying.trace import MOST_OPERATIONS, Trace
     for more, fits in ((2, True), (1, False)):

@@ -13,7 +13,7 @@ from tooling.replays import HEAPS, MELT, generated, heaps, loaded, program_that,
 DRAWS = "#!/bin/sh\n/bin/cat\n"    # stands for gnuplot, and draws what it is told
 
 
-def test_help(folder):
+def test_heaps_help(folder):
     """--help is answered on standard output, and a reader may leave."""
     ran = heaps("--help")
     assert ran.status == 0 and ran.out.startswith("tools/heaps") and not ran.told, ran
@@ -27,7 +27,7 @@ def test_help(folder):
             assert all(word not in told.read() for word in ("Traceback", "Broken")), words
 
 
-def test_bad_words(folder):
+def test_heaps_bad_words(folder):
     """Bad words are told with status 1, and nothing is run."""
     path, marks = str(generated("list", 5)), program_that("marks", "touch ran")
     for words in ([], ["nowhere.trace"], ["."], ["--heap", "15", path], ["--heap", "64k", path], ["--heap", "4194305", path], ["--to"],
@@ -45,7 +45,7 @@ def test_bad_words(folder):
         assert ran.status == 1 and "melt refuses these options" in ran.told and not ran.out, (words, ran)
 
 
-def test_bad_inputs(folder):
+def test_heaps_bad_inputs(folder):
     """A trace that melt refuses is refused, with its line; and so is a count of uses that is not of this trace."""
     ran = heaps(trace("bad", "new 0 1 1", "new 16 0 0"))
     assert ran.status == 2 and "error trace 6 9" in ran.told and not ran.out, ran
@@ -56,7 +56,7 @@ def test_bad_inputs(folder):
         assert ran.status == 2 and why in ran.told and not ran.out, ran
 
 
-def test_words_of_script(folder):
+def test_heaps_words_of_script(folder):
     """What the script says of a refused trace is told, where the script takes this program."""
     from replaying.melt import Melt
     script = pathlib.Path("script")
@@ -73,7 +73,7 @@ def test_words_of_script(folder):
     assert not os.path.exists("built")
 
 
-def test_no_program(folder):
+def test_heaps_no_program(folder):
     """Where there is no program, or none that can be run, that is told."""
     path = generated("list", 5)
     pathlib.Path("empty").touch(0o755)
@@ -92,7 +92,7 @@ FAILS = {                      # by the heap: what a run does, and how its row s
 }
 
 
-def test_runs_that_fail(folder):
+def test_heaps_runs_that_fail(folder):
     """A run that is killed, prints nothing or half, or leaves no file is told in its row, with status 3; the others are as ever."""
     path, cases = generated("list", 100), "".join(f"4,{heap}) {does}; exit;;" for heap, (does, _) in FAILS.items())
     melt = program_that("fails", f'case $#,$heap in {cases} esac; exec "$MELT" "$@"')
@@ -104,7 +104,7 @@ def test_runs_that_fail(folder):
         assert f"the run in a heap of {heap} words failed: {told}" in ran.told, (heap, ran)
 
 
-def test_bad_file(folder):
+def test_heaps_bad_file(folder):
     """So is a file that is no disk of this run, also where it is longer or shorter than the table has it."""
     for does, told in (("truncate -s 8 melt.stale; truncate -s 8000 melt.stale", "word 1: "), ("truncate -s -8 melt.stale", "word 76: "),
                        ("truncate -s +1 melt.stale", "word 81: ")):
@@ -113,7 +113,7 @@ def test_bad_file(folder):
         assert ran.status == 3 and rows_of(ran.out)[0]["end"].startswith(f"0 and a bad melt.stale, {told}"), (does, ran)
 
 
-def test_wrong_sum(folder):
+def test_heaps_wrong_sum(folder):
     """A sum that is not the one that was foretold is told."""
     path = trace("sum", "new 0 0 1", "put 0 0 7", "get 0 0")
     for total, status in ((7, 0), (8, 3)):
@@ -122,13 +122,13 @@ def test_wrong_sum(folder):
         assert ran.status == status and ("a sum of 7 in the place of 8" in ran.told) == bool(status), ran
 
 
-def test_plain_need_fails(folder):
+def test_heaps_plain_need_fails(folder):
     """A run that fails while the plain need is sought ends the tool."""
     ran = heaps(generated("list", 5), melt=program_that("fails", 'if ((heap < 100)); then kill -9 $$; fi; exec "$MELT" "$@"'))
     assert ran.status == 3 and "words failed: killed by SIGKILL" in ran.told and not ran.out, ran
 
 
-def test_signals(folder):
+def test_heaps_signals(folder):
     """Ctrl-C and SIGTERM end it and what it runs. The rows that there are are written, and no folder is left."""
     path = generated("list", 100)
     os.mkdir("folders")
@@ -156,7 +156,7 @@ def with_gnuplot(text):
     return {"PATH": f"{path.parent.absolute()}:{os.environ['PATH']}"}
 
 
-def test_picture(folder):
+def test_heaps_picture(folder):
     """A picture has a point for each row, and replaces no file without --force."""
     path, env = generated("list", 40), with_gnuplot(DRAWS)
     ran = heaps("--csv", "--picture", "one.svg", path, env=env)
@@ -172,7 +172,7 @@ def test_picture(folder):
         assert "<svg" in pathlib.Path("two.svg").read_text()
 
 
-def test_no_picture(folder):
+def test_heaps_no_picture(folder):
     """Where no picture can be drawn or written, no file is there, whole or half."""
     path = generated("list", 40)
     os.mkdir("nothing")
@@ -188,10 +188,10 @@ def test_no_picture(folder):
     assert not [name for name in os.listdir() if name.startswith("a.svg")], os.listdir()
 
 
-def test_progress(folder):
+def test_heaps_progress(folder):
     """On a terminal there is a line that tells which run it is."""
     if not shutil.which("script"):
-        print("test_progress: there is no command `script`, so no terminal")
+        print("test_heaps_progress: there is no command `script`, so no terminal")
         return
     path = generated("list", 10)
     ran = subprocess.run(["script", "-qec", f"{HEAPS} {path}", "/dev/null"], capture_output=True,
