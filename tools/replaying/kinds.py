@@ -37,21 +37,20 @@ class Kinds:
             lines = file.read().split("\n")
         if lines.pop():
             raise Told(REFUSED, f"{path}, line {len(lines) + 1}: the file ends within it")
-        for number, name in enumerate(HEAD):
-            self.take_head(lines, number, name)
-        self.first, self.last, self.operations = map(int, self.values[3:])
+        values = [self.head_value(lines, number, name) for number, name in enumerate(HEAD)]
+        self.first, self.last, self.operations = map(int, values[3:])
         self.rows = [self.row(number, line.split("\t")) for number, line in enumerate(lines[6:], 7)]
         for number, row in enumerate(self.rows, 7):
             if not 1 <= row.head <= len(self.rows) or self.head_of(row).head != row.head:
                 raise Told(REFUSED, f"{path}, line {number}: there is no object {row.head}")
 
-    def take_head(self, lines, number, name):
-        """Takes one of the first six lines. That of the program has any text, and the first is the version."""
+    def head_value(self, lines, number, name):
+        """What one of the first six lines says. That of the program has any text, and the first is the version."""
         word, _, value = lines[number].partition(" ") if number < len(lines) else ("", "", "")
         is_right = value == "1" if name == "kinds" else name == "program" or value.isascii() and value.isdigit()
         if word != name or not is_right:
             raise Told(REFUSED, f"{self.path}, line {number + 1}: it is not that of the {name}, as tools/record writes it")
-        self.values = [*getattr(self, "values", ()), value]
+        return value
 
     def row(self, number, fields):
         try:
