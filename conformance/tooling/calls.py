@@ -15,10 +15,11 @@ PROGRAM = BUILT if os.access(BUILT, os.X_OK) else None
 ENDINGS = ".trace", ".kinds", ".expect"
 SECONDS = 120
 
-# Words of `step`: a heap in which nothing is collected, and one from which objects move and come back. Each collection takes a new
-# heap of that size, so the second is smaller.
+# Words of `step`: a heap in which nothing is collected; and such that objects move and come back, in a smaller one, since each
+# collection takes a new heap of that size.
 AMPLE = ["--heap", "4194304"]
-MOVING = ["--heap", "262144", "--mark", "0", "--move", "0", "--every", "97"]
+MOVING = ["--mark", "0", "--move", "0", "--every", "97"]
+IN_LESS = ["--heap", "262144"]
 
 sys.path.insert(0, str(TOP / "tools"))     # for tests of parts of the tools
 
@@ -54,7 +55,7 @@ def replay(name, *more_words):
     """Each way to run a trace has to print what was foretold, where it ends done."""
     data = pathlib.Path(f"{name}.trace").read_bytes()
     wanted = "".join(pathlib.Path(f"{name}.expect").read_text().splitlines(True)[:4]).encode()
-    for words in (AMPLE, MOVING, *more_words):
+    for words in (AMPLE, [*IN_LESS, *MOVING], *more_words):
         assert answer(["step", "--quiet", *words], lambda: data) == (0, wanted), words
         for command in ("step", "run") if PROGRAM else ():
             ran = subprocess.run([PROGRAM, command, "--quiet", *words], input=data, stdout=subprocess.PIPE, timeout=SECONDS)
