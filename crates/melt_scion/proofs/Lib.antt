@@ -1,6 +1,5 @@
 pub mod Named
 pub mod Numbers
-pub mod LiveScions
 pub mod ScionTables
 pub mod Tables
 pub mod Few
@@ -38,3 +37,4 @@ pub mod WritingHome
 pub mod Settling
 pub mod SettlingTells
 pub mod NobodyLeaves
+pub mod LinkedScions

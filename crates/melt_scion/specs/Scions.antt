@@ -1,8 +1,9 @@
 -- The table of scions: a finite map from scions to homes and addresses, and two lists beside it.
 use Rattle.std.specs.Prelude.{◌≡◌, ◌≢◌, ◌↔◌, ℕ, ◌+◌, ◌<◌, ◌≤◌, suc, zero, if◌then◌else◌, List, [], ◌∷◌, ◌++◌, length}
-use Rattle.std.specs.Prelude.{replicate, Option, None, Some, IsSome, nat_eq, slice_index_or}
+use Rattle.std.specs.Prelude.{replicate, Option, None, Some, IsSome, map, nat_eq, slice_index_or}
 use Rattle.std.specs.List.{AllPairs, Contains, range_with_len}
 use Rattle.std.specs.Option.{option_map}
+use Rattle.melt_links.specs.Links.{NodeLists, list_at}
 
 pub record Scions : Type 0 where
   -- for each number from 1 on, the home and the address of the scion, where it is live
@@ -85,28 +86,14 @@ behind (y ∷ ys) x = if nat_eq y x then first_of ys else behind ys x
 
 -- How this crate keeps a table. Nothing above it names what follows.
 
--- the numbers of those that are live among the pairs of the numbers from n on
-abbrev pub live_from : ℕ → List (Option (ℕ × ℕ)) → List ℕ
-live_from n [] = []
-live_from n (None ∷ pairs) = live_from (suc n) pairs
-live_from n (Some pair ∷ pairs) = n ∷ live_from (suc n) pairs
+-- The table of these pairs. Node k is the number k + 1; list 0 has those that are not live, and list 1 those that are.
+abbrev pub table_of : List (Option (ℕ × ℕ)) → NodeLists → Scions
+table_of pairs links =
+    record { pairs = pairs; unused = map suc (list_at links 0); live = map suc (list_at links 1) }
 
--- the table of these pairs and unused numbers, which a walk goes through in ascending order
-abbrev pub table_of : List (Option (ℕ × ℕ)) → List ℕ → Scions
-table_of pairs unused = record { pairs = pairs; unused = unused; live = live_from 1 pairs }
-
--- What is kept of a table: its numbers fit, its lists have each number once, and there is room for all unused ones.
-pub record IsKept (pairs : List (Option (ℕ × ℕ))) (unused : List ℕ) (capacity : ℕ) : Type 0 where
-  pub table : IsTable (table_of pairs unused)
+-- What is kept of a table: its numbers fit, and each has a pair and a node, which stands in one of two lists.
+pub record IsKept (pairs : List (Option (ℕ × ℕ))) (links : NodeLists) : Type 0 where
+  pub table : IsTable (table_of pairs links)
   pub small : length pairs < 4294967296
-  pub room : length pairs ≤ capacity
-
--- none of the first pairs is there
-abbrev pub AreNone : List (Option (ℕ × ℕ)) → ℕ → Type 0
-AreNone pairs count = (k : ℕ) → k < count → slice_index_or pairs k None ≡ None
-
--- the first pair that is there is at this index
-pub record IsFirstSome (pairs : List (Option (ℕ × ℕ))) (index : ℕ) : Type 0 where
-  pub in_range : index < length pairs
-  pub here : IsSome (slice_index_or pairs index None)
-  pub before : AreNone pairs index
+  pub nodes : links.nodes ≡ length pairs
+  pub lists : length links.lists ≡ 2

@@ -17,7 +17,7 @@ use std::alloc::Global;
 use std::marker::Model;
 
 /// The words of all globals, each that of a reference.
-#[derive(Debug, Drop)]
+#[derive(Drop)]
 pub struct Globals {
     pub items: Vec<u64>,
 }
@@ -31,7 +31,7 @@ impl Model for Globals {
 }
 
 /// The forwarding words: each is 0, or says at which address the object of a home is since it came back.
-#[derive(Debug, Drop)]
+#[derive(Drop)]
 pub struct Forwards {
     pub items: Vec<u64>,
 }
@@ -45,7 +45,7 @@ impl Model for Forwards {
 }
 
 /// The numbers of the objects of a heap, by their addresses and by their homes.
-#[derive(Debug, Drop)]
+#[derive(Drop)]
 pub struct Names {
     pub addresses: AddressNames,
     pub homes: HomeNames,
@@ -53,7 +53,7 @@ pub struct Names {
 
 /// A heap of fixed size. It has names where its history is stored, since that speaks of objects by their numbers. Where
 /// it has none, `maps` says the same to contracts; where it has names, `maps` means nothing.
-#[derive(Debug, Drop)]
+#[derive(Drop)]
 pub struct Heap {
     pub space: Space,
     pub scions: ScionTable,

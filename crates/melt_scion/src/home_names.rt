@@ -14,7 +14,7 @@ use std::collections::HashMap;
 use std::marker::Model;
 
 /// A finite map from homes to the numbers of the objects that have them.
-#[derive(Debug, Drop)]
+#[derive(Drop)]
 pub struct HomeNames {
     numbers: HashMap<u32, u32>,
     /// How many more homes were reserved. The map itself may have room for more than these.

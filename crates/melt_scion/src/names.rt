@@ -8,7 +8,7 @@ use std::alloc::Global;
 use std::marker::Model;
 
 /// A finite map from addresses to the numbers of the objects that start there.
-#[derive(Debug, Drop)]
+#[derive(Drop)]
 pub struct AddressNames {
     /// For each address from 1 on, whether an object starts there.
     named: Vec<bool>,

@@ -1,65 +1,39 @@
 //! The table of scions: which home on disk each scion stands for, and at which address its object is.
 //!
-//! The pairs lie at the places of their scions, so a walk goes through the places in ascending order and passes those
-//! that are not live. The unused numbers are a stack, made with room for all, so that a number that is freed finds
-//! room.
-ghost use Rattle.std.specs.Prelude.{◌≡◌, ◌+◌, ◌<◌, ◌≤◌, ◌^◌, drop, length, reverse, IfOk, MatchOption};
-ghost use Rattle.std.specs.List.{range_with_len};
+//! The numbers stand in two lists over links, those of no scion and those that are live. So a number is found, given and
+//! freed in a few steps, and a walk meets live scions alone: the one that was given last comes first.
+ghost use Rattle.std.specs.Prelude.{◌≡◌, ◌<◌, length, IfOk};
 ghost use Rattle.melt_scion.specs.Scions.{IsLive, IsTable, Adds, Frees, SetsAddress, empty_table, scion_at, first_of};
-ghost use Rattle.melt_scion.specs.Scions.{behind, live_from, AreNone, IsFirstSome};
+ghost use Rattle.melt_scion.specs.Scions.{behind};
 
+use melt_links::Links;
 use melt_model::NoMemory;
 use std::alloc::Global;
 use std::marker::Model;
 
+/// The list of the numbers that are not live. The first is given next.
+const UNUSED: u32 = 0;
+
+/// The list of the live scions.
+const LIVE: u32 = 1;
+
 /// A finite map from scions to homes and addresses.
-#[derive(Debug, Drop)]
+#[derive(Drop)]
 pub struct ScionTable {
     /// For each number from 1 on, its home and its address, where it is live.
     pairs: Vec<Option<(u32, u32)>>,
-    /// The numbers that are not live. The last is given next.
-    unused: Vec<u32>,
+    /// Node k is the number k + 1.
+    links: Links,
 }
 
 impl Model for ScionTable {
-    ghost use Rattle.std.specs.Prelude.{reverse};
-    ghost use Rattle.std.specs.Vec.{vec_capacity};
     ghost use Rattle.melt_scion.specs.Scions.{Scions, IsKept, table_of};
 
     ghost Value = { Scions };
 
-    ghost view = { λ table. table_of table.pairs.items (reverse table.unused.items) };
+    ghost view = { λ table. table_of table.pairs.items table.links };
 
-    ghost invariant = { λ table. IsKept table.pairs.items (reverse table.unused.items) (vec_capacity table.unused) };
-}
-
-/// Writes the numbers from how many there are down to 1.
-fn count_down(numbers: &mut [u32])
-    requires { length numbers.old < 2 ^ 32 }
-    ensures { reverse numbers.new ≡ range_with_len 1 (length numbers.old) }
-{
-    let mut next = numbers.len() as u32;
-    for number in numbers.iter_mut() {
-        *number = next;
-        next -= 1;
-    }
-}
-
-/// The index of the first live pair.
-fn first_live(pairs: &[Option<(u32, u32)>]) -> Option<usize>
-    ensures { MatchOption result (AreNone pairs.now (length pairs.now)) (λ i. IsFirstSome pairs.now i) }
-{
-    pairs.iter().position(|pair| pair.is_some())
-}
-
-/// The first live scion above a number.
-fn live_above(pairs: &[Option<(u32, u32)>], number: u32) -> Option<u32>
-    requires small { length pairs.now < 2 ^ 32 }
-    requires within { number ≤ length pairs.now }
-    ensures { result ≡ first_of (live_from (number + 1) (drop number pairs.now)) }
-{
-    let skipped = first_live(&pairs[number as usize..])?;
-    Some(number + 1 + skipped as u32)
+    ghost invariant = { λ table. IsKept table.pairs.items table.links };
 }
 
 impl ScionTable {
@@ -69,9 +43,11 @@ impl ScionTable {
         ensures table { IfOk result IsTable }
     {
         let pairs = vec![in alloc; None; n as usize]?;
-        let mut unused = vec![in alloc; 0; n as usize]?;
-        count_down(&mut unused);
-        Ok(ScionTable { pairs, unused })
+        let mut links = Links::new(alloc, n, 2)?;
+        for pushed in 0..n {
+            links.push_front(UNUSED, n - 1 - pushed);
+        }
+        Ok(ScionTable { pairs, links })
     }
 
     /// Makes a number live, with a home and an address: the one that was freed last among those that were freed and not
@@ -81,9 +57,11 @@ impl ScionTable {
         ensures adds { Adds self.old self.new home address result }
         ensures table { IsTable self.new }
     {
-        let scion = self.unused.pop().unwrap();
-        self.pairs[scion as usize - 1] = Some((home, address));
-        scion
+        let node = self.links.first(UNUSED).unwrap();
+        self.links.unlink(node);
+        self.links.push_front(LIVE, node);
+        self.pairs[node as usize] = Some((home, address));
+        node + 1
     }
 
     /// Makes a live scion an unused number.
@@ -92,9 +70,10 @@ impl ScionTable {
         ensures frees { Frees self.old self.new scion }
         ensures table { IsTable self.new }
     {
-        self.pairs[scion as usize - 1] = None;
-        // There is room for as many numbers as the table is for.
-        let _pushed = self.unused.push(scion);
+        let node = scion - 1;
+        self.links.unlink(node);
+        self.links.push_front(UNUSED, node);
+        self.pairs[node as usize] = None;
     }
 
     /// The home and the address of a scion, if it is live.
@@ -124,11 +103,8 @@ impl ScionTable {
         ensures first { result ≡ first_of self.now.live }
         ensures table { IsTable self.now }
     {
-        // Where all numbers are unused, no place need be looked at.
-        if self.unused.len() == self.pairs.len() {
-            return None;
-        }
-        live_above(&self.pairs, 0)
+        let node = self.links.first(LIVE)?;
+        Some(node + 1)
     }
 
     /// The scion behind a live one in such a walk, if there is one.
@@ -137,6 +113,7 @@ impl ScionTable {
         ensures next { result ≡ behind self.now.live scion }
         ensures table { IsTable self.now }
     {
-        live_above(&self.pairs, scion)
+        let node = self.links.next(scion - 1)?;
+        Some(node + 1)
     }
 }

@@ -1,24 +1,27 @@
-use Rattle.std.proofs.Common.{◌∙◌, rules}
-use Rattle.melt_scion.proofs.ScionTables.{made}
+use Rattle.std.proofs.Common.{◌-◌, sym, subst, arith, rules}
+use Rattle.melt_links.specs.Links.{NodeLists, StandsNowhere}
+use Rattle.melt_scion.proofs.LinkedScions.{all_filled, not_filled}
 use Rattle.melt_scion.proofs.scions.ScionTable.new.Goals as goal
+
+pub push_front-requires-clause-alone : goal.push_front-requires-clause-alone
+push_front-requires-clause-alone c =
+    subst (λ (links : NodeLists). StandsNowhere links (c.args.n - 1 - c.loop-pushed.pushed)) (sym c.loop-pushed.invariant)
+    (not_filled c.args.n c.loop-pushed.pushed c.loop-pushed-test.true)
 
 pub invariant_of-result : goal.invariant_of-result
 invariant_of-result c =
-    let pairs = c.in_ok-pairs.ensures.items_if_clones_equal (λ y clone. search rules) in
-    let count = c.deref_mut.ensures.len ∙ c.in_ok-unused.ensures.len in
-    (made _ c.in_ok-unused.unused _ c.args.n _ pairs c.in_ok-unused.ensures.len count c.count_down.auto.numbers
-    c.count_down.ensures c.ranges.n.fits c.in_ok-unused.unused.ok.1).1
+    (all_filled c.args.n c.loop-pushed.pushed
+    (c.in_ok-pairs.ensures.items_if_clones_equal (λ y clone. search rules)) c.loop-pushed.invariant c.ranges.n.fits
+    (omega (arith, c.loop-pushed.auto.pushed-end, c.loop-pushed-test.false))).1
 
 pub returns-clause-empty : goal.returns-clause-empty
 returns-clause-empty c =
-    let pairs = c.in_ok-pairs.ensures.items_if_clones_equal (λ y clone. search rules) in
-    let count = c.deref_mut.ensures.len ∙ c.in_ok-unused.ensures.len in
-    (made _ c.in_ok-unused.unused _ c.args.n _ pairs c.in_ok-unused.ensures.len count c.count_down.auto.numbers
-    c.count_down.ensures c.ranges.n.fits c.in_ok-unused.unused.ok.1).0
+    (all_filled c.args.n c.loop-pushed.pushed
+    (c.in_ok-pairs.ensures.items_if_clones_equal (λ y clone. search rules)) c.loop-pushed.invariant c.ranges.n.fits
+    (omega (arith, c.loop-pushed.auto.pushed-end, c.loop-pushed-test.false))).0
 
 pub returns-clause-table : goal.returns-clause-table
 returns-clause-table c =
-    let pairs = c.in_ok-pairs.ensures.items_if_clones_equal (λ y clone. search rules) in
-    let count = c.deref_mut.ensures.len ∙ c.in_ok-unused.ensures.len in
-    (made _ c.in_ok-unused.unused _ c.args.n _ pairs c.in_ok-unused.ensures.len count c.count_down.auto.numbers
-    c.count_down.ensures c.ranges.n.fits c.in_ok-unused.unused.ok.1).1.table
+    (all_filled c.args.n c.loop-pushed.pushed
+    (c.in_ok-pairs.ensures.items_if_clones_equal (λ y clone. search rules)) c.loop-pushed.invariant c.ranges.n.fits
+    (omega (arith, c.loop-pushed.auto.pushed-end, c.loop-pushed-test.false))).1.table

@@ -1,15 +1,27 @@
-use Rattle.std.proofs.Common.{◌+◌, drop, reverse, sym, ap, subst, ◌∙◌}
-use Rattle.melt_scion.specs.Scions.{Scions, IsLive, behind, first_of, live_from}
-use Rattle.melt_scion.proofs.LiveScions.{Pairs}
-use Rattle.melt_scion.proofs.ScionTables.{next_is}
+use Rattle.std.proofs.Common.{◌≡◌, ◌+◌, suc, Some, sym, ap, subst, ◌∙◌, arith}
+use Rattle.std.specs.Option.{option_map}
+use Rattle.melt_scion.specs.Scions.{Scions, IsLive, behind}
+use Rattle.melt_scion.proofs.LinkedScions.{behind_live, behind_below}
 use Rattle.melt_scion.proofs.scions.ScionTable.next.Goals as goal
+
+pub returns-in_err-node-clause-next : goal.returns-in_err-node-clause-next
+returns-in_err-node-clause-next c =
+    let live = subst (λ (table : Scions). IsLive table c.args.scion) (sym c.self.view_is) c.requires in
+    c.from_residual.ensures ∙ sym (ap (λ (table : Scions). behind table.live c.args.scion) (sym c.self.view_is)
+    ∙ (behind_live c.args.scion c.next.result c.self.invariant live c.next.ensures
+    ∙ ap (option_map suc) c.in_err-node.was))
+
+pub overflow_add-result : goal.overflow_add-result
+overflow_add-result c =
+    let live = subst (λ (table : Scions). IsLive table c.args.scion) (sym c.self.view_is) c.requires in
+    let low = behind_below c.args.scion c.in_ok-node.node c.next.result c.self.invariant live c.next.ensures
+    c.in_ok-node.was in
+    omega (arith, low, c.self.invariant.small)
 
 pub returns-clause-next : goal.returns-clause-next
 returns-clause-next c =
-    let scion = c.args.scion in
-    let pairs = c.self.inside.pairs.items in
-    let live = subst (λ (table : Scions). IsLive table scion) (sym c.self.view_is) c.requires in
-    c.live_above.ensures
-    ∙ (ap (λ (ps : Pairs). first_of (live_from (scion + 1) (drop scion ps))) c.deref.ensures.value
-    ∙ (sym (next_is pairs (reverse c.self.inside.unused.items) scion live)
-    ∙ ap (λ (table : Scions). behind table.live scion) c.self.view_is))
+    let live = subst (λ (table : Scions). IsLive table c.args.scion) (sym c.self.view_is) c.requires in
+    let next : suc c.in_ok-node.node ≡ c.in_ok-node.node + 1 = omega arith in
+    sym (ap (λ (table : Scions). behind table.live c.args.scion) (sym c.self.view_is)
+    ∙ (behind_live c.args.scion c.next.result c.self.invariant live c.next.ensures
+    ∙ (ap (option_map suc) c.in_ok-node.was ∙ ap Some next)))
