@@ -1,5 +1,6 @@
 -- Forwarding words: each is empty or sends one home to the address of its object. And where a search for a home looks.
-use Rattle.std.specs.Prelude.{◌≡◌, ◌≢◌, ◌⊎◌, ℕ, ◌+◌, ◌*◌, ◌<◌, suc, zero, List, length, slice_index}
+use Rattle.std.specs.Prelude.{◌≡◌, ◌≢◌, ◌⊎◌, ℕ, ◌+◌, ◌*◌, ◌%◌, ◌^◌, ◌<◌, ◌==◌, suc, zero, if◌then◌else◌}
+use Rattle.std.specs.Prelude.{List, length, slice_index}
 use Rattle.melt_word.specs.Words.{IsAddress, IsDiskHome}
 use Rattle.melt_forward.specs.declared.forwarding.Found.{Found}
 use Rattle.melt_forward.specs.declared.forwarding.Found.TheVariants.{At, Empty, Full}
@@ -26,13 +27,13 @@ SendsNot word home = (address : ℕ) → Sends word home address → ⊥
 abbrev pub SendsAnother : ℕ → ℕ → Type 0
 SendsAnother word home = (other : ℕ) × (address : ℕ) × (other ≢ home) × Sends word other address
 
--- where the search for a home starts among so many words
-abbrev pub start : ℕ → ℕ → ℕ
-start home count = 0
+-- Where the search for a home starts among so many words: the factor brings homes that stand side by side far apart.
+unfoldable pub start : ℕ → ℕ → ℕ
+start home count = home * 2654435769 % 2 ^ 32 % count
 
--- the place that is tried after a place
+-- the place that is tried after a place: behind the last the first
 abbrev pub next : ℕ → ℕ → ℕ
-next count place = place + 1
+next count place = if place + 1 == count then 0 else place + 1
 
 -- the place that is tried after k others
 abbrev pub probe : ℕ → ℕ → ℕ → ℕ
@@ -46,6 +47,12 @@ probed words home k = slice_index words (probe home (length words) k)
 -- each word is a forwarding word
 abbrev pub AreForwarding : List ℕ → Type 0
 AreForwarding words = (k : ℕ) → k < length words → IsForwarding (slice_index words k)
+
+-- Before the place of a word that sends a home, in the order in which that home is searched for, no word is empty. So the
+-- first empty word ends a search.
+pub record HaveNoGaps (words : List ℕ) : Type 0 where
+  pub filled : (home address k i : ℕ) → k < length words → Sends (probed words home k) home address → i < k
+      → probed words home i ≢ 0
 
 -- no word sends the home
 abbrev pub IsUnsent : List ℕ → ℕ → Type 0

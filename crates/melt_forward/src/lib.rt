@@ -3,4 +3,4 @@
 
 pub mod forwarding;
 
-pub use forwarding::{Found, find, pack, unpack};
+pub use forwarding::{Found, find, pack, place_of, unpack};
