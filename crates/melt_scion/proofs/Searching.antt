@@ -13,12 +13,24 @@ use Rattle.melt_record.specs.declared.head.Head.{Head}
 use Rattle.melt_record.specs.declared.head.Kind.TheVariants.{Body, Stub}
 use Rattle.melt_record.specs.Records.{IsHead, IsSlotWord, IsHeadDamage, IsSlotDamage}
 use Rattle.melt_record.proofs.Heads.{same_head}
-use Rattle.melt_forward.specs.Forwarding.{probe}
+use Rattle.melt_forward.specs.Forwarding.{HaveNoGaps, probe}
 use Rattle.melt_scion.specs.State.{Base, State, IsFresh, Forwards, NoGaps}
 use Rattle.melt_scion.specs.Placed.{Maps, IsNamed, HasObject, HeadIs, value_of, FormedWords, Tells}
 use Rattle.melt_scion.specs.Commits.{Probed, HasRecord}
+use Rattle.melt_scion.specs.Heaps.{OnDisk, state_of}
+use Rattle.melt_scion.specs.declared.heap.Heap.{Heap}
+use Rattle.melt_scion.specs.declared.registers.Registers.{Registers}
 use Rattle.melt_scion.proofs.Committing.{none_sends}
 use Rattle.melt_scion.proofs.Forwarded.{forward_stands, forwarded_object}
+
+-- Forwarding words without gaps, as the state says it and as a list. So one that keeps them may be searched at once.
+pub words_without_gaps : (heap : Heap) (held : List Registers) (disk : OnDisk) → NoGaps (state_of heap held disk)
+    → HaveNoGaps heap.forward
+words_without_gaps heap held disk gaps = record { filled = gaps.filled }
+
+pub gaps_of_words : (heap : Heap) (held : List Registers) (disk : OnDisk) → HaveNoGaps heap.forward
+    → NoGaps (state_of heap held disk)
+gaps_of_words heap held disk words = record { filled = words.filled }
 
 module _ (maps : Maps) (s : State) (formed : FormedWords maps s) where
   -- a forwarding word sends a home to an object without the stale bit

@@ -8,6 +8,7 @@ use Rattle.std.specs.Option.{option_map}
 use Rattle.melt_model.specs.declared.history.Value.TheVariants.{Nil}
 use Rattle.melt_word.specs.declared.header.Shape.{Shape}
 use Rattle.melt_forward.specs.Forwarding.{Sends, forward_word, probe}
+use Rattle.melt_forward.proofs.Probing.{probe_within}
 use Rattle.melt_scion.specs.State.{State, NoGaps, IsReserved, Follow}
 use Rattle.melt_scion.specs.Placed.{Maps, FormedWords, Formed, Tells, Placed, value_at}
 use Rattle.melt_scion.specs.Scions.{empty_table}
@@ -82,14 +83,6 @@ settled_gaps s settled = record {
       sends_nothing (s.forward (probe home s.base.forwards k)) home address
       (settled (probe home s.base.forwards k)) sends;
 }
-
--- each place that is tried is that of a forwarding word
-probe_at : (home count k : ℕ) → probe home count k ≡ k
-probe_at home count zero = refl
-probe_at home count (suc k) = let e : probe home count k ≡ k = probe_at home count k in omega arith
-
-probe_within : (home count k : ℕ) → k < count → probe home count k < count
-probe_within home count k below = let e : probe home count k ≡ k = probe_at home count k in omega arith
 
 module _ (maps : Maps) (s : State) (none : NoObjects maps) (empty : IsEmpty s) where
   no_name : (a n : ℕ) → maps.address a ≢ Some n
