@@ -6,7 +6,7 @@ use Rattle.std.proofs.lemmas.List.{get_or_read_under}
 use Rattle.std.specs.Prelude.{Bool, false, Option, Some, None, slice_index, slice_set}
 use Rattle.melt_model.specs.declared.operations.Op.{Op}
 use Rattle.melt_forward.specs.Forwarding.{Sends, SendsAnother, AllSendOthers, probe, forward_word}
-use Rattle.melt_forward.proofs.Probing.{each_place_once, probe_is, probe_within}
+use Rattle.melt_forward.proofs.Probing.{each_place_once, one_try, probe_within}
 use Rattle.melt_scion.specs.State.{State, Forwards}
 use Rattle.melt_scion.specs.Placed.{Maps, FormedWords}
 use Rattle.melt_scion.specs.Commits.{Probed}
@@ -36,23 +36,20 @@ use Rattle.melt_core.proofs.Retaining.{still_retains}
 use Rattle.melt_core.proofs.Standing.{call_here}
 use Rattle.melt_core.proofs.Words.{same_words}
 
--- the word to which a search has come stands where the order of its home says
-pub probed_is : (v : View) (search : Search) → slice_index v.forward search.tried ≡ probed_word v search
-probed_is v search = ap (slice_index v.forward) (sym (probe_is search.home (length v.forward) search.tried))
-
-pub probed_read : (v : View) (search : Search) (word : ℕ) → search.tried < length v.forward
-    → word ≡ get_or v.forward search.tried word → word ≡ probed_word v search
-probed_read v search word within is =
-    get_or_read_under v.forward search.tried (length v.forward) word 0 is within refl ∙ probed_is v search
+-- the word at the place to which a search has come was read
+pub probed_read : (v : View) (search : Search) (place word : ℕ) → place ≡ probed_place v search
+    → place < length v.forward → word ≡ get_or v.forward place word → word ≡ probed_word v search
+probed_read v search place word at within is =
+    get_or_read_under v.forward place (length v.forward) word 0 is within refl ∙ ap (slice_index v.forward) at
 
 -- and is replaced there
-pub forward_set : (v : View) (search : Search) (address word : ℕ) → word ≡ forward_word search.home address
-    → slice_set v.forward search.tried word
+pub forward_set : (v : View) (search : Search) (place address word : ℕ) → place ≡ probed_place v search
+    → word ≡ forward_word search.home address
+    → slice_set v.forward place word
     ≡ slice_set v.forward (probed_place v search) (forward_word search.home address)
-forward_set v search address word is =
-    ap (slice_set v.forward search.tried) is
-    ∙ ap (λ (p : ℕ). slice_set v.forward p (forward_word search.home address))
-    (sym (probe_is search.home (length v.forward) search.tried))
+forward_set v search place address word at is =
+    ap (slice_set v.forward place) is
+    ∙ ap (λ (p : ℕ). slice_set v.forward p (forward_word search.home address)) at
 
 -- a search that is not over has a word to read
 pub not_over : (tried count : ℕ) → (count ≤ tried → ⊥) → tried < count
@@ -126,8 +123,7 @@ few_probed m s home tried formed is =
     formed.one_forward (probe home s.base.forwards i) (probe home s.base.forwards j) first.0 first.1 second.1
     (probe_within home s.base.forwards i (omega arith)) (probe_within home s.base.forwards j (omega arith)) first.3
     (subst (λ (h : ℕ). Sends (s.forward (probe home s.base.forwards j)) h second.1) one second.3) in
-    let i_is : probe home s.base.forwards i ≡ i = probe_is home s.base.forwards i in
-    let j_is : probe home s.base.forwards j ≡ j = probe_is home s.base.forwards j in
+    let tried_once : i ≡ j = one_try home s.base.forwards i j (omega arith) (omega arith) place in
     omega arith) in
     omega arith
 

@@ -7,7 +7,7 @@
 ghost use Rattle.std.specs.Prelude.{◌≡◌, ◌↔◌, ◌<◌, ◌≤◌, ◌^◌, length, IsSome, IsTrue, Some};
 ghost use Rattle.melt_word.specs.Words.{IsDiskHome};
 ghost use Rattle.melt_core.specs.Advances.{Moves, MayMove};
-ghost use Rattle.melt_core.specs.Changed.{CanProbe, HasEntered, TellsOf};
+ghost use Rattle.melt_core.specs.Changed.{CanProbe, HasEntered, TellsOf, probed_place};
 ghost use Rattle.melt_core.specs.Stages.{SearchesOn};
 ghost use Rattle.melt_core.specs.Views.{numbers_of, stage_of, view};
 
@@ -15,7 +15,7 @@ use crate::answer::{Pause, Refusal, StepResult};
 use crate::call::{Activation, Search, Stage};
 use crate::machine::Core;
 use crate::parts::Naming;
-use melt_forward::{pack, unpack};
+use melt_forward::{pack, place_of, unpack};
 use melt_model::Op;
 
 /// What the forwarding word that a search has come to tells of its home.
@@ -37,12 +37,21 @@ impl Core {
         search.tried as usize >= self.heap.forward.items.len()
     }
 
+    /// Where the forwarding word stands that a search has come to.
+    fn place(&self, search: Search) -> usize
+        requires { search.tried < length (view self.now).forward }
+        ensures place { result ≡ probed_place (view self.now) search }
+        ensures within { result < length (view self.now).forward }
+    {
+        place_of(search.home, search.tried, self.heap.forward.items.len())
+    }
+
     /// Reads the forwarding word that a search has come to.
     fn probe(&self, search: Search) -> Probe
         requires { CanProbe (view self.now) search }
         ensures { TellsOf (view self.now) search result }
     {
-        match unpack(self.heap.forward.items[search.tried as usize]) {
+        match unpack(self.heap.forward.items[self.place(search)]) {
             None => Probe::Empty,
             Some((home, address)) if home == search.home => Probe::At(address),
             Some(_) => Probe::Another,
@@ -119,7 +128,8 @@ impl Core {
             address,
             ..
         } = activation;
-        self.heap.forward.items[search.tried as usize] = pack(search.home, address);
+        let place = self.place(search);
+        self.heap.forward.items[place] = pack(search.home, address);
         self.name(address, Naming::Home { home: search.home });
     }
 

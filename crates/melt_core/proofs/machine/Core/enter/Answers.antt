@@ -23,9 +23,9 @@ returns c =
           (number_given (view core).names (Home a.search.home))) c.self.view_is c.name.ensures.appears;
       only = c.name.ensures.only
           ∙ (ap (λ (core : Core). record (view core) {
-            forward = slice_set core.heap.forward a.search.tried c.pack.result;
+            forward = slice_set core.heap.forward c.place-place.result c.pack.result;
             names = w.names;
           }) c.self.view_is
           ∙ ap (λ (words : List ℕ). record v { forward = words; names = w.names })
-          (forward_set v a.search a.address c.pack.result c.pack.ensures));
+          (forward_set v a.search c.place-place.result a.address c.pack.result c.place-place.ensures.place c.pack.ensures));
     }

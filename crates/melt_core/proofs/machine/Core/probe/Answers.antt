@@ -10,18 +10,16 @@ pub returns-in-None : goal.returns-in-None
 returns-in-None c =
     let v : View = view c.args.self.now in
     let word : c.index.result.now ≡ probed_word v c.args.search =
-    probed_read v c.args.search c.index.result.now c.requires.within
-    (c.index.ensures
-    ∙ ap (λ (core : Core). get_or core.heap.forward c.args.search.tried c.index.result.now) c.self.view_is) in
+    probed_read v c.args.search c.place.result c.index.result.now c.place.ensures.place c.place.ensures.within
+    (c.index.ensures ∙ ap (λ (core : Core). get_or core.heap.forward c.place.result c.index.result.now) c.self.view_is) in
     sym word ∙ c.in-None.ensures
 
 pub returns-in-Some : goal.returns-in-Some
 returns-in-Some c =
     let v : View = view c.args.self.now in
     let word : c.index.result.now ≡ probed_word v c.args.search =
-    probed_read v c.args.search c.index.result.now c.requires.within
-    (c.index.ensures
-    ∙ ap (λ (core : Core). get_or core.heap.forward c.args.search.tried c.index.result.now) c.self.view_is) in
+    probed_read v c.args.search c.place.result c.index.result.now c.place.ensures.place c.place.ensures.within
+    (c.index.ensures ∙ ap (λ (core : Core). get_or core.heap.forward c.place.result c.index.result.now) c.self.view_is) in
     subst (λ (h : ℕ). Sends (probed_word v c.args.search) h c.in-Some.address) c.if-home-search.true
     (subst (λ (w : ℕ). Sends w c.in-Some.home c.in-Some.address) word c.in-Some.ensures)
 
@@ -29,9 +27,8 @@ pub returns-in-Some-2 : goal.returns-in-Some-2
 returns-in-Some-2 c =
     let v : View = view c.args.self.now in
     let word : c.index.result.now ≡ probed_word v c.args.search =
-    probed_read v c.args.search c.index.result.now c.requires.within
-    (c.index.ensures
-    ∙ ap (λ (core : Core). get_or core.heap.forward c.args.search.tried c.index.result.now) c.self.view_is) in (
+    probed_read v c.args.search c.place.result c.index.result.now c.place.ensures.place c.place.ensures.within
+    (c.index.ensures ∙ ap (λ (core : Core). get_or core.heap.forward c.place.result c.index.result.now) c.self.view_is) in (
       c.in-Some.home,
       c.in-Some.address,
       c.if-home-search.false,
