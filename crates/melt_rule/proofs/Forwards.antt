@@ -1,14 +1,13 @@
 -- What a seat gives a step on a forwarding word, and what the step gives back.
-use Rattle.std.proofs.Common.{◌≡◌, ℕ, ◌+◌, ◌<◌, refl, sym, ◌∙◌, ap, arith, inl, inr}
+use Rattle.std.proofs.Common.{◌≡◌, ℕ, ◌<◌, refl, sym, ◌∙◌, ap, subst, inl, inr}
 use Rattle.std.specs.Prelude.{Option, None, Some, MatchOption}
 use native.Mathlib.Decide.{ℕ_discrete}
 use Rattle.atomic_table.specs.declared.shared.Seat.{Seat}
 use Rattle.melt_forward.proofs.Pairs.{forward_word-filled, one_pair}
-use Rattle.melt_forward.proofs.Probing.{probe_is}
 use Rattle.melt_forward.specs.Forwarding.{IsForwarding, Sends, forward_word}
 use Rattle.melt_core.specs.declared.call.Search.{Search}
 use Rattle.melt_rule.proofs.Seating.{seated}
-use Rattle.melt_rule.proofs.Standing.{AtTable}
+use Rattle.melt_rule.proofs.Standing.{words_in}
 use Rattle.melt_rule.specs.Coming.{FindsForward, IsForward, ProbesShared, probe_place}
 use Rattle.melt_rule.specs.Plays.{Stays}
 use Rattle.melt_rule.specs.Seats.{EpochWords, IsSeat, knows_of}
@@ -17,19 +16,15 @@ use Rattle.melt_rule.specs.declared.view.Doing.{Doing}
 use Rattle.melt_rule.specs.declared.view.View.{View}
 use Rattle.melt_rule.specs.declared.words.Words.TheInside.{Inside}
 
--- where the next forwarding word of a search stands
-pub probe_at : {inside : Inside} {seat : Seat ℕ View} → AtTable inside seat → (search : Search)
-    → inside.forwards_at + search.tried ≡ probe_place (knows_of seat).began search
-probe_at {seat} at search =
-    let globals = ap (λ (b : Began). b.globals) at.is_seat.began in
-    let place = probe_is search.home (knows_of seat).began.forwards search.tried in
-    omega arith
+-- where the next forwarding word of a search stands, as the seat says it
+pub probe_at : {words : EpochWords} {seat : Seat ℕ View} → IsSeat words seat → (search : Search) (place : ℕ)
+    → place ≡ probe_place words.start.began search → place ≡ probe_place (knows_of seat).began search
+probe_at seat search place is = is ∙ ap (λ (b : Began). probe_place b search) (sym seat.began)
 
 -- the table has it
-pub has_forward : {inside : Inside} {seat : Seat ℕ View} → AtTable inside seat → (search : Search)
-    → search.tried < (knows_of seat).began.forwards
-    → inside.forwards_at + search.tried < inside.table.shared.table_id.words
-has_forward at search more = let forwards = ap (λ (b : Began). b.forwards) at.is_seat.began in omega arith
+pub has_forward : {words : EpochWords} (inside : Inside) → words_in inside ≡ words → (place : ℕ)
+    → place < words.id.words → place < inside.table.shared.table_id.words
+has_forward inside is place within = subst (λ (w : EpochWords). place < w.id.words) (sym is) within
 
 -- what was found may be unpacked
 pub may_unpack : (word : ℕ) (sent : Option (ℕ × ℕ)) → IsForward word sent → IsForwarding word

@@ -14,7 +14,7 @@ ghost use Rattle.melt_scion.specs.Heaps.{scion_in};
 ghost use Rattle.melt_core.specs.Stages.{further, retried};
 ghost use Rattle.melt_rule.specs.Coming.{Commits, CopyTells, Fills, ProbesShared, IsSearching};
 ghost use Rattle.melt_rule.specs.Coming.{ClearStubPlay, CommitPlay, CopyPlay, FillCopyPlay, FillsPlay};
-ghost use Rattle.melt_rule.specs.Coming.{HeadCopyPlay, ProbePlay, RetryPlay};
+ghost use Rattle.melt_rule.specs.Coming.{HeadCopyPlay, ProbePlay, RetryPlay, probe_place};
 ghost use Rattle.melt_rule.specs.Rule.{has_cause};
 ghost use Rattle.melt_rule.specs.Seats.{IsSeat, knows_of};
 ghost use Rattle.melt_rule.specs.Shown.{base_at};
@@ -27,7 +27,7 @@ use crate::view::View;
 use crate::words::{FREE_AT, Seated, Words};
 use atomic_table::Play;
 use melt_core::call::{Activation, Search};
-use melt_forward::{pack, unpack};
+use melt_forward::{pack, place_of, unpack};
 use melt_word::{Header, Shape, cost, encode_header};
 use std::marker::{Brand, PhantomData};
 
@@ -103,6 +103,15 @@ impl Play<u64, View> for Commit {
 }
 
 impl Words {
+    /// Where the next forwarding word of a search stands.
+    fn forward_at(&self, search: Search) -> usize
+        requires { search.tried < self.now.start.began.forwards }
+        ensures at { result ≡ probe_place self.now.start.began search }
+        ensures within { result < self.now.id.words }
+    {
+        self.forwards_at + place_of(search.home, search.tried, self.forwards)
+    }
+
     /// Reads the next forwarding word in the search for a home, and answers which home it sends, and to which address.
     pub fn probe(&self, seat: &mut Seated, search: Search) -> Option<(u32, u32)>
         requires seat { IsSeat self.now seat.old }
@@ -112,7 +121,7 @@ impl Words {
         ensures probes { ProbesShared (knows_of seat.old) (knows_of seat.new) search (Missed search)
             (Searching (further search)) result }
     {
-        let at = self.forwards_at + search.tried as usize;
+        let at = self.forward_at(search);
         unpack(self.table.shared.load::<ProbeForward>(seat, at))
     }
 
@@ -125,7 +134,7 @@ impl Words {
         ensures probes { ProbesShared (knows_of seat.old) (knows_of seat.new) activation.search (Copied activation)
             (Retrying (retried activation)) result }
     {
-        let at = self.forwards_at + activation.search.tried as usize;
+        let at = self.forward_at(activation.search);
         unpack(self.table.shared.load::<RetryForward>(seat, at))
     }
 
@@ -246,12 +255,9 @@ impl Words {
             address,
             ..
         } = activation;
-        let at = self.forwards_at + search.tried as usize;
+        let at = self.forward_at(search);
+        let shared = &self.table.shared;
         let new = pack(search.home, address);
-        unpack(
-            self.table
-                .shared
-                .compare_exchange::<Commit>(seat, at, 0, new),
-        )
+        unpack(shared.compare_exchange::<Commit>(seat, at, 0, new))
     }
 }

@@ -54,12 +54,14 @@ impl Words {
         ensures first { IfOk result (λ t. knows_of t.1 ≡ first_view start.now) }
     {
         let before = words.len() - 1 - size as usize;
+        let forwards_at = GLOBALS_AT + globals as usize;
         let (table, seat) = Table::of_words(alloc, words, start)?;
         Ok((
             Words {
                 table,
                 before,
-                forwards_at: GLOBALS_AT + globals as usize,
+                forwards_at,
+                forwards: before + 1 - forwards_at,
                 size,
             },
             seat,
@@ -104,6 +106,7 @@ impl Words {
             table,
             before: _,
             forwards_at: _,
+            forwards: _,
             size: _,
         } = self;
         let closed = table.close_with(seat);

@@ -54,8 +54,11 @@ pub struct Words {
     pub(crate) before: usize,
     /// How many stand before the forwarding words.
     pub(crate) forwards_at: usize,
+    /// How many forwarding words there are.
+    pub(crate) forwards: usize,
     /// How many words the space has.
     pub(crate) size: u32,
+    ghost forwards_are: { forwards ≡ table.shared.key.began.forwards },
     ghost size_is: { size ≡ table.shared.key.began.size },
 }
 

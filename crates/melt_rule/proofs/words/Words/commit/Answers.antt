@@ -3,27 +3,31 @@ use Rattle.melt_rule.proofs.Forwards.{has_forward, may_unpack, probe_at, same_se
 use Rattle.melt_rule.proofs.Standing.{at_table}
 use Rattle.melt_rule.proofs.words.Words.commit.Goals as goal
 
+pub forward_at-at-requires : goal.forward_at-at-requires
+forward_at-at-requires c =
+    rw (← c.requires.seat.began) (copied_within c.requires.seat.within c.requires.copied).1
+
 pub compare_exchange-requires : goal.compare_exchange-requires
 compare_exchange-requires c =
     let at = at_table c.self.inside c.self.view_is c.self.invariant c.requires.seat in
-    let search = c.args.activation.search in
-    let fits = copied_within at.is_seat.within c.requires.copied in (
+    let search = c.args.activation.search in (
       at.is_seat.same,
-      has_forward at search fits.1,
-      commits_at _ at.is_seat.live c.requires.copied (probe_at at search) c.pack-new.ensures,
+      has_forward c.self.inside c.self.view_is c.forward_at-at.result c.forward_at-at.ensures.within,
+      commits_at _ at.is_seat.live c.requires.copied
+          (probe_at c.requires.seat search c.forward_at-at.result c.forward_at-at.ensures.at) c.pack-new.ensures,
     )
 
 pub unpack-requires : goal.unpack-requires
 unpack-requires c =
-    let at = at_table c.self.inside c.self.view_is c.self.invariant c.requires.seat in
-    let place = probe_at at c.args.activation.search in
+    let search = c.args.activation.search in
+    let place = probe_at c.requires.seat search c.forward_at-at.result c.forward_at-at.ensures.at in
     let f = c.compare_exchange.ensures.2.1 c.args.activation c.requires.copied place in
     may_unpack c.compare_exchange.result f.sent f.is
 
 pub returns-clause-commits : goal.returns-clause-commits
 returns-clause-commits c =
-    let at = at_table c.self.inside c.self.view_is c.self.invariant c.requires.seat in
-    let place = probe_at at c.args.activation.search in
+    let search = c.args.activation.search in
+    let place = probe_at c.requires.seat search c.forward_at-at.result c.forward_at-at.ensures.at in
     let f = c.compare_exchange.ensures.2.1 c.args.activation c.requires.copied place in
     rw (← same_sent c.compare_exchange.result f.sent c.unpack.result f.is c.unpack.ensures) f.commits
 

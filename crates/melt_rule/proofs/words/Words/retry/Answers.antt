@@ -7,21 +7,21 @@ pub load-requires : goal.load-requires
 load-requires c =
     let at = at_table c.self.inside c.self.view_is c.self.invariant c.requires.seat in (
       at.is_seat.same,
-      has_forward at c.args.activation.search (rw c.requires.seat.began c.requires.more),
+      has_forward c.self.inside c.self.view_is c.forward_at-at.result c.forward_at-at.ensures.within,
       retries_at _ at.is_seat.live c.requires.retrying (rw c.requires.seat.began c.requires.more)
-          (probe_at at c.args.activation.search),
+          (probe_at c.requires.seat c.args.activation.search c.forward_at-at.result c.forward_at-at.ensures.at),
     )
 
 pub unpack-requires : goal.unpack-requires
 unpack-requires c =
-    let at = at_table c.self.inside c.self.view_is c.self.invariant c.requires.seat in
-    let f = c.load.ensures.2.1 c.args.activation c.requires.retrying (probe_at at c.args.activation.search) in
+    let place = probe_at c.requires.seat c.args.activation.search c.forward_at-at.result c.forward_at-at.ensures.at in
+    let f = c.load.ensures.2.1 c.args.activation c.requires.retrying place in
     may_unpack c.load.result f.sent f.is
 
 pub returns-clause-probes : goal.returns-clause-probes
 returns-clause-probes c =
-    let at = at_table c.self.inside c.self.view_is c.self.invariant c.requires.seat in
-    let f = c.load.ensures.2.1 c.args.activation c.requires.retrying (probe_at at c.args.activation.search) in
+    let place = probe_at c.requires.seat c.args.activation.search c.forward_at-at.result c.forward_at-at.ensures.at in
+    let f = c.load.ensures.2.1 c.args.activation c.requires.retrying place in
     probed_as c.unpack.result f c.unpack.ensures
 
 pub returns-clause-seat : goal.returns-clause-seat
