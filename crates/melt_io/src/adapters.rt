@@ -7,13 +7,20 @@ ghost use Rattle.melt_io.specs.Outside.{CountsFault};
 use crate::faults::Faults;
 use crate::outside::{Failed, Gate, PositionedFile, PositionedReader, Sink, Source};
 use std::fmt::Debug;
-use std::fs;
-use std::io::{Read, Write};
-use std::os::unix::fs::FileExt;
+use std::fs::{self, OpenFile, OpenOptions};
+use std::io::{self, ErrorKind, Read, Write};
+use std::os::unix::fs::{FileExt, OpenOptionsExt};
 use std::rt::Files;
 
 /// The name of the file of a `StdFile`.
 const PATH: &str = "melt.stale";
+
+/// Who may do what with that file: its owner may read and write it, and nobody else.
+const OWNER_ALONE: u32 = 0o600;
+
+/// How often the file is tried to be made. A try is lost only where another run makes its own file meanwhile, which each
+/// run does once: so as many runs as this may begin at the same moment.
+const TRIES: usize = 1000;
 
 /// Reads from a reader, as `StdSource::new(rt.stdin())`. Each call makes one read of the size asked for,
 /// with no buffer between, and an error of the reader is `Failed`. It tells no content.
@@ -34,8 +41,10 @@ pub struct StdSink<W> {
     ghost word: { faults < 2 ^ 64 },
 }
 
-/// The file `melt.stale` of the current folder, which is not touched before `create`. Each call makes one
-/// call of the same name of std, and an error of that is `Failed`. It tells no content.
+/// The file `melt.stale` of the current folder. The folder is not touched before `create`, which makes a file of its own: what
+/// stands at that name is removed, and no link is followed. Readers are clones of its handle, and each read and write names
+/// its place; so nothing that is done to the name later, and no other reader, changes what is read. An error of a call of
+/// std is `Failed`, but where `create` can try again. It tells no content.
 #[derive(Drop)]
 #[derive_where(Debug; R, R::File: Debug)]
 pub struct StdFile<R: Files> {
@@ -45,8 +54,8 @@ pub struct StdFile<R: Files> {
     ghost word: { faults < 2 ^ 64 },
 }
 
-/// Reads from the same file, by one read of std for each call. It tells no content: what is written after
-/// it was opened is read too.
+/// Reads from the same file, by one read of std for each call, which neither uses nor moves the position that clones of a
+/// handle share. It tells no content: what is written after it was opened is read too.
 #[derive(Debug, Drop)]
 pub struct StdFileReader<F> {
     pub file: F,
@@ -166,7 +175,7 @@ where
     }
 
     fn create(&mut self) -> Result<(), Failed> {
-        match fs::create(&self.runtime, PATH) {
+        match make_new(&self.runtime) {
             Ok(file) => {
                 self.file = Some(file);
                 Ok(())
@@ -183,13 +192,36 @@ where
     }
 
     fn open(&mut self) -> Result<StdFileReader<R::File>, Failed> {
-        match fs::open(&self.runtime, PATH) {
-            Ok(file) => Ok(StdFileReader {
+        match self.file.as_ref().map(OpenFile::try_clone) {
+            Some(Ok(file)) => Ok(StdFileReader {
                 file,
                 faults: Faults::none(),
             }),
-            Err(_) => Err(self.faults.rise()),
+            _ => Err(self.faults.rise()),
         }
+    }
+}
+
+/// Makes the file that is at `PATH` then. One that is there from before is removed, and so is that of a run that was faster.
+fn make_new<R: Files>(files: &R) -> io::Result<R::File> {
+    let mut how = OpenOptions::new();
+    how.read(true).write(true).create_new(true);
+    how.mode(OWNER_ALONE);
+    for _ in 0..TRIES {
+        remove_old(files)?;
+        match how.open(files, PATH) {
+            Err(e) if e.kind() == ErrorKind::AlreadyExists => {}
+            made => return made,
+        }
+    }
+    Err(io::Error::from(ErrorKind::AlreadyExists))
+}
+
+/// Removes what is at `PATH`, if anything is there.
+fn remove_old<R: Files>(files: &R) -> io::Result<()> {
+    match fs::remove_file(files, PATH) {
+        Err(e) if e.kind() == ErrorKind::NotFound => Ok(()),
+        removed => removed,
     }
 }
 

@@ -18,7 +18,7 @@ use std::rt::Files;
 const PIECE: usize = 4096;
 
 /// Keeps the words in a file, word w in the 8 bytes from byte 8 * w on, its lowest byte first. The file is
-/// made, or emptied, at the first write. Up to 4,096 words go to the file by one write, and more by one for
+/// made at the first write. Up to 4,096 words go to the file by one write, and more by one for
 /// each 4,096. Where a call of the file fails, the answer is `Failed`. It tells no words: its clauses speak of
 /// the bytes of the file.
 #[derive(Debug, Drop)]
@@ -50,8 +50,8 @@ pub struct FileReader<F> {
 }
 
 impl<R: Files + Drop> FileDisk<StdFile<R>> {
-    /// A disk in the file `melt.stale` of the current folder, of which nothing was written. The file is not
-    /// touched yet.
+    /// A disk in a file `melt.stale` of its own in the current folder, of which nothing was written. What is there from before
+    /// is not touched yet.
     pub fn new(alloc: Global, runtime: R) -> Result<FileDisk<StdFile<R>>, NoMemory>
         ensures runtime { IfOk result (λ disk. disk.file.runtime ≡ runtime) }
         ensures no_file { IfOk result (λ disk. IsNone disk.file.file) }

@@ -192,7 +192,7 @@ pub trait PositionedFile {
     fn is_made(&self) -> bool
         ensures { result ≡ made self.now };
 
-    /// Makes the file. One that is there from before is emptied.
+    /// Makes the file, of which nothing is written yet, whatever is there from before.
     fn create(&mut self) -> Result<(), Failed>
         requires { made self.old ≡ false }
         ensures made { OnOk result (made self.new ≡ true) }

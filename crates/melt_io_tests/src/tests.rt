@@ -141,8 +141,6 @@ fn the_file_has_the_lowest_byte_of_each_word_first(rt: HostRuntime) -> Result<()
         (1, 0, 0),
     )?;
     fs::remove_file(&rt, "melt.stale")?;
-    same(disk.lend(rt.alloc()).err(), Some(LendRefusal::Failed))?;
-    same((disk.faults.count(), disk.file.faults.count()), (1, 1))?;
     Ok(())
 }
 
