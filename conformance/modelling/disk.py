@@ -4,12 +4,14 @@ An object on the disk has a record, and its home is the number of the first word
 in a file, by a class for each: `write` and `read` take the number of a word, and `begin` is called before an epoch, in
 which nothing is written.
 """
+import contextlib
 import os
 import struct
 from typing import NamedTuple
 
 from modelling.heap import Away, Reference, words_of
 
+TRIES = 1000                  # how often a file is tried to be made
 BODY, STUB = 1, 2             # the lowest byte of a record
 MOST_PARTS = 62
 LAST_SCION = 2**30 - 1
@@ -76,25 +78,26 @@ class WordsInMemory:
 
 
 class WordsInFile:
-    """Words in a file, which is made or emptied at the first write. What is past its end is read as 0."""
+    """Words in a file of its own, which is made at the first write: what is at its name then is removed. What becomes of the
+    name later does not matter. What is past its end is read as 0."""
 
     def __init__(self, path):
         self.path = path
-        self.writer = self.reader = None    # descriptors
+        self.file = self.reader = None    # descriptors
 
     def begin(self):
-        """Opens the file for reading, where there was a write."""
+        """Takes a descriptor for reading, where there was a write."""
         if self.reader is not None:
             os.close(self.reader)
-        if self.writer is not None:
-            self.reader = self.opened(os.O_RDONLY)
+        if self.file is not None:
+            self.reader = called(os.dup, self.file)
 
     def write(self, first, words):
-        if self.writer is None:
-            self.writer = self.opened(os.O_WRONLY | os.O_CREAT | os.O_TRUNC)
+        if self.file is None:
+            self.file = called(new_file, self.path)
         data, done = struct.pack(f"<{len(words)}Q", *words), 0
         while done < len(data):
-            taken = called(os.pwrite, self.writer, data[done:], 8 * first + done)
+            taken = called(os.pwrite, self.file, data[done:], 8 * first + done)
             if not taken:
                 raise Failed
             done += taken
@@ -106,8 +109,16 @@ class WordsInFile:
             data += part
         return list(struct.unpack(f"<{count}Q", data.ljust(8 * count, b"\0")))
 
-    def opened(self, flags):
-        return called(os.open, self.path, flags, 0o666)
+
+def new_file(path):
+    """A new file at the path, which only its owner may read and write. Behind the removal of what is there another run may have
+    made its own, so both are tried again, but not for ever."""
+    for _ in range(TRIES):
+        with contextlib.suppress(FileNotFoundError):
+            os.remove(path)
+        with contextlib.suppress(FileExistsError):
+            return os.open(path, os.O_RDWR | os.O_CREAT | os.O_EXCL, 0o600)
+    raise FileExistsError(path)
 
 
 def called(function, *arguments):
