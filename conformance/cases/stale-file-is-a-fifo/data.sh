@@ -1,0 +1,1 @@
+mkfifo melt.stale

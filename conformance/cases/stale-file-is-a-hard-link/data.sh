@@ -1,0 +1,2 @@
+printf kept >target
+ln target melt.stale

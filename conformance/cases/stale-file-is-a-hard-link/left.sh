@@ -1,0 +1,1 @@
+cmp --silent target <(printf kept)

@@ -1,0 +1,2 @@
+printf kept >target
+ln -s target melt.stale

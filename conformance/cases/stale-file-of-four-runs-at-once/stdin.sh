@@ -1,0 +1,5 @@
+printf 'melt 1\nthreads 1\nglobals 1\nthread 0\n'
+for node in {10000..10009}; do
+  printf 'new 0 1 1\nput 0 0 %d\ngload 1 0\nstore 0 0 1\ngstore 0 0\n' $node
+done
+printf 'drop 0\ndrop 1\nrepeat 600\ngload 1 0\nrepeat 10\nget 1 0\nload 1 1 0\nend\nend\ndone\n'

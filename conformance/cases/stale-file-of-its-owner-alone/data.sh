@@ -1,0 +1,2 @@
+umask 0
+printf old >melt.stale

@@ -1,0 +1,1 @@
+[[ $(stat --format %a melt.stale) == 600 ]]
