@@ -26,10 +26,10 @@ fn leave(rt: &HostRuntime, folder: &str) -> Result<(), Fail> {
 }
 
 /// Reads two words of the disk by a reader of its own.
-fn two_words<D: StaleDisk>(alloc: Global, disk: &mut D, at: u32) -> Result<[u64; 2], Fail> {
+fn two_words<D: StaleDisk>(alloc: Global, disk: &mut D, at: u8) -> Result<[u64; 2], Fail> {
     let mut reader = disk.lend(alloc).ok().ok_or("no reader")?;
     let mut words = [9; 2];
-    let read = reader.read_at(at, &mut words);
+    let read = reader.read_at(u32::from(at), &mut words);
     disk.give_back(reader);
     read?;
     Ok(words)
