@@ -174,7 +174,12 @@ fn a_stub_that_is_not_written_ends_a_run(rt: HostRuntime) -> Result<(), Fail> {
 }
 
 #[test]
-fn a_read_that_fails_ends_one_thread_alone(rt: HostRuntime) -> Result<(), Fail> {
-    let last = b"end done\nthread 1\nend disk-fault\n";
-    expect_endings(&rt, &TWO_LOAD, &[loses(&[Flaw::Read(4, 3)], 9, last)])
+fn what_is_wrong_with_one_record_ends_one_thread_alone(rt: HostRuntime) -> Result<(), Fail> {
+    let lost = b"end done\nthread 1\nend disk-fault\n";
+    let zeros = b"end done\nthread 1\nend damaged 4 0 0\n";
+    let endings = [
+        loses(&[Flaw::Read(4, 3)], 9, lost),
+        damages(&[Flaw::Lie(4, 4, 0)], 9, zeros),
+    ];
+    expect_endings(&rt, &TWO_LOAD, &endings)
 }
