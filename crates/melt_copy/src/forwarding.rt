@@ -31,7 +31,7 @@ pub struct Relocation {
 }
 
 /// The objects that were found so far, in the order in which they are to stand from word 1 on.
-#[derive(Debug, Drop)]
+#[derive(Drop)]
 pub struct Forwarding {
     /// An entry for each two addresses from 0 on, 0 where no object was found at either.
     pub entries: Vec<u32>,

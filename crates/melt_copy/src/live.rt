@@ -22,7 +22,7 @@ use std::alloc::Global;
 use std::sync::ledger::Ledger;
 
 /// What was found of a heap.
-#[derive(Debug, Drop)]
+#[derive(Drop)]
 pub struct LiveSet {
     /// The objects that were found, each with the place that it would have if all of them stayed.
     pub forwarding: Forwarding,

@@ -12,7 +12,7 @@ use melt_scion::{AddressNames, Names};
 use std::alloc::Global;
 
 /// The names of a heap, and the numbers of the objects that have moved, at their new addresses.
-#[derive(Debug, Drop)]
+#[derive(Drop)]
 pub struct Renaming {
     pub names: Names,
     pub moved: AddressNames,

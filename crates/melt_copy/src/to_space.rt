@@ -33,7 +33,7 @@ use std::collections::LinkedList;
 use std::sync::ledger::Ledger;
 
 /// The copies of the objects that were found, in a vector of as many words as are in use, or more.
-#[derive(Debug, Drop)]
+#[derive(Drop)]
 pub struct ToSpace {
     /// The words of the copies, from word 1 on, and behind them words that have no meaning yet.
     pub words: Vec<u64>,

@@ -18,14 +18,14 @@ use std::alloc::Global;
 use std::sync::ledger::Ledger;
 
 /// An object that leaves the space: its address, and its shape.
-#[derive(Clone, Copy, Debug)]
+#[derive(Clone, Copy)]
 pub struct Departure {
     pub from: u32,
     pub shape: Shape,
 }
 
 /// Which of the objects that can be reached stay in the space, and where, and which leave.
-#[derive(Debug, Drop)]
+#[derive(Drop)]
 pub struct Choice {
     /// Those that stay, in the order in which they are to lie from word 1 on.
     pub stay: Forwarding,

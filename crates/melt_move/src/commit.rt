@@ -20,7 +20,7 @@ use melt_word::cost;
 use std::sync::ledger::Ledger;
 
 /// What is to stand in the place of the words, the globals and the names of a heap.
-#[derive(Debug, Drop)]
+#[derive(Drop)]
 pub struct Copied {
     pub words: Vec<u64>,
     pub globals: Vec<u64>,

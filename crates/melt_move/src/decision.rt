@@ -18,7 +18,7 @@ use std::alloc::Global;
 use std::sync::ledger::Ledger;
 
 /// Who stays, who leaves, and who gets a home.
-#[derive(Debug, Drop)]
+#[derive(Drop)]
 pub struct Decision {
     pub choice: Choice,
     pub homes: NewHomes,

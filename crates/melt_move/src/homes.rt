@@ -21,14 +21,14 @@ use std::alloc::Global;
 use std::sync::ledger::Ledger;
 
 /// An object that gets a home: its address, and its shape.
-#[derive(Clone, Copy, Debug)]
+#[derive(Clone, Copy)]
 pub struct Given {
     pub from: u32,
     pub shape: Shape,
 }
 
 /// The homes that a collection gives.
-#[derive(Debug, Drop)]
+#[derive(Drop)]
 pub struct NewHomes {
     /// The first word of the first of them.
     pub first: u32,

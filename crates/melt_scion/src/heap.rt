@@ -14,6 +14,7 @@ use crate::scions::ScionTable;
 use melt_model::NoMemory;
 use melt_space::Space;
 use std::alloc::Global;
+use std::fmt;
 use std::marker::Model;
 
 /// The words of all globals, each that of a reference.
@@ -61,6 +62,13 @@ pub struct Heap {
     pub forward: Forwards,
     pub names: Option<Names>,
     pub maps: GhostMaps,
+}
+
+/// Shows that it is one. It has too many words to show them.
+impl fmt::Debug for Heap {
+    fn fmt<W: fmt::Write>(&self, f: &mut fmt::Formatter<W>) -> fmt::Result {
+        f.write_str("Heap { .. }")
+    }
 }
 
 impl Heap {
