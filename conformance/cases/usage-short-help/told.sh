@@ -1,0 +1,2 @@
+# The same as behind --help.
+bash "$(dirname -- "$0")/../usage-help/told.sh"

@@ -1,0 +1,11 @@
+# The first version of the list of changes, the commit, and what is known of the program.
+cd -- "$(dirname -- "$0")/../../.."
+sed -n 's/^## \([0-9]*\.[0-9.]*\).*/melt \1/p' docs/CHANGELOG.md | head -n 1
+if [[ -e .git ]]; then
+    echo "commit $(git rev-parse --short=8 HEAD)$([[ -z $(git diff HEAD --name-only) ]] || echo ', with changes')"
+fi
+if [[ ${MELT_PROGRAM-} ]]; then
+    echo "runs $MELT_PROGRAM, of which nothing is known here"
+else
+    ./melt --version | tail -n 1
+fi
