@@ -16,7 +16,9 @@ from typing import NamedTuple, Optional
 from replaying.words import FAILED, REFUSED, WORDS, Told
 
 TOP = pathlib.Path(__file__).resolve().parents[2]
-BUILT = TOP / "crates/melt_top/out/melt_top"
+# In a clone, and where tools/install has put it.
+PLACES = TOP / "crates/melt_top/out/melt_top", TOP / "melt_top"
+BUILT = next((place for place in PLACES if place.exists()), PLACES[0])
 SCRIPT = TOP / "melt"
 NOTHING = b"melt 1\nthreads 1\nglobals 0\nthread 0\ndone\n"
 

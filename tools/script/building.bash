@@ -1,7 +1,5 @@
 # Proves and builds the program, or tries its sources.
 
-log=$folder/out/build.log
-
 need_rt() {
     command -v rt >/dev/null && return
     say "$1, and the command rt, which does that, is not on PATH"
@@ -53,16 +51,15 @@ build_told() {
     (build_crate "$name") 2>>"$log"
     status=$?
     if [[ $ticker ]]; then
-        kill "$ticker"
-        wait "$ticker"
-        printf '\r%s' "$line"
-    fi 2>/dev/null >&2
+        { kill "$ticker" && wait "$ticker"; } 2>/dev/null
+        printf '\r%s' "$line" >&2
+    fi
     if ((status == 0)); then printf '%4d s\n' $((SECONDS - since)); else printf 'failed\n'; fi >&2
     return "$status"
 }
 
 build() {
-    local names name begun place=0
+    local names name begun log=$folder/out/build.log place=0
     need_rt 'the program has to be built'
     mapfile -t names < <(crates)
     ((${#names[@]})) && mkdir -p -- "$folder/out" && begun=$(mktemp -- "$folder/out/begun.XXXXXX") && : >"$log" || exit 126
@@ -71,7 +68,8 @@ build() {
         "what the prover says: $log"
     [[ -t 2 ]] && say 'meanwhile ./melt --try WORDS runs the sources unproved, from another terminal'
     for name in "${names[@]}"; do
-        if ! build_told "$(printf 'melt: %2d of %d  %-15s' "$((++place))" "${#names[@]}" "$name")" "$name"; then
+        ((++place))
+        if ! build_told "$(printf 'melt: %2d of %d  %-15s' "$place" "${#names[@]}" "$name")" "$name"; then
             say "the program could not be built; $log says why"
             exit 126
         fi
@@ -83,6 +81,7 @@ build() {
 
 # Runs the sources by these words, in the crate's own folder, as `rt try` wants it. What it says of the run goes to standard error.
 try_sources() {
+    ((${#sources[@]})) || { say 'there are no sources here that could be run' && exit 126; }
     need_rt 'the sources are to be run'
     say 'running the sources as they stand: unproved and slow. It takes a minute to begin, and nothing is kept'
     cd -- "$folder" && exec rt try -- "$@"
