@@ -156,7 +156,8 @@ def test_script_disk_fault(folder):
         assert f"  melt.stale is {told}" in lines and "  the folder takes a new file" in lines, lines
         assert re.fullmatch(r"  (more than 1 GB is|\d+ KB are) left on its file system", lines[-1]), lines
         assert len(os.listdir(str(number))) == (number > 0)
-    assert "  the folder takes no new file: No such file or directory" in lines_of(melt("step", program=fails, cwd="/proc"))
+    lines = lines_of(melt("step", program=fails, cwd="/proc"))
+    assert re.fullmatch("  the folder takes no new file: (No such file or directory|Permission denied)", lines[-2]), lines
     limited = subprocess.run(["bash", "-c", 'ulimit -f 5; exec "$@"', "bash", SCRIPT, "step"], capture_output=True, text=True,
                              env={**os.environ, "MELT_TELL": "1", "MELT_PROGRAM": str(fails)})
     assert limited.stderr.endswith("melt:   a file may have at most 5 KB, by ulimit -f\n"), limited

@@ -67,7 +67,7 @@ read_again() {
 tell_refusal() {
     local LC_ALL=C told
     if [[ -z $start ]]; then
-        say 'this is no trace: the two numbers are its first bad line, and the reason by the list in docs/TRACES.md.' \
+        say 'this is no trace: the two numbers are its first bad line, or 0 for all of it, and the reason by the list in docs/TRACES.md.' \
             'Where the trace stands in a file, more is told here. To keep it in a file:' \
             '  COMMAND > my.trace' '  melt step < my.trace'
     elif [[ $(stamp_of_input) != "$stamp" ]]; then
