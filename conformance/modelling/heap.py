@@ -43,31 +43,28 @@ class Forwarding(NamedTuple):
 
 
 class Scions:
-    """Places that are numbered from 1 on, each for an object whose home has a Stub."""
+    """Numbers from 1 on, each for an object whose home has a Stub."""
 
     def __init__(self):
-        self.places, self.given_back = [None], []
+        self.objects = {}     # by their numbers, in the order in which these were given
+        self.given_back = []
 
     def add(self, obj):
         """Gives the number that was given back last, or the lowest that was never given."""
-        if self.given_back:
-            obj.scion = self.given_back.pop()
-            self.places[obj.scion] = obj
-        else:
-            obj.scion = len(self.places)
-            self.places.append(obj)
+        obj.scion = self.given_back.pop() if self.given_back else len(self.objects) + 1
+        self.objects[obj.scion] = obj
 
     def give_back(self, scion):
-        self.places[scion] = None
+        del self.objects[scion]
         self.given_back.append(scion)
 
     def live(self):
-        """The objects that have one, by ascending numbers."""
-        return [obj for obj in self.places if obj is not None]
+        """The objects that have one: the last one that got its number first."""
+        return list(reversed(self.objects.values()))
 
     def object_of(self, scion):
         """The object of a number, or None."""
-        return self.places[scion] if scion < len(self.places) else None
+        return self.objects.get(scion)
 
 
 class Heap:
