@@ -1,5 +1,6 @@
 mod disk;
 mod forward;
+mod links;
 mod policy;
 mod record;
 mod scion;
