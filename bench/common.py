@@ -107,10 +107,10 @@ def least(costs):
     return Cost(*map(min, zip(*costs)))
 
 
-def written(words, given=subprocess.DEVNULL):
-    """What a process writes."""
+def written(words, given=subprocess.DEVNULL, folder=None):
+    """What a process writes to its output, in this folder."""
     with tempfile.TemporaryFile() as into:
-        run(words, given, into)
+        run(words, given, into, folder)
         into.seek(0)
         return into.read()
 
