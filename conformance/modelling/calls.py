@@ -28,9 +28,8 @@ def value_of(word):
 class Calls:
     """The operations on one heap, and the history of what they made, read and wrote."""
 
-    def __init__(self, heap, disk, say, is_alone):
+    def __init__(self, heap, disk, say):
         self.heap, self.disk, self.say = heap, disk, say
-        self.is_alone = is_alone    # one thread makes all of them, and nobody is told of events
         self.stop = False     # a collection is asked for
         self.made = 0
         self.history = []
@@ -204,7 +203,8 @@ class Calls:
 
     def use_home(self, home):
         """Finds the object of a home, or brings it back."""
-        place, word = yield from self.probe(home, 0)
+        places = self.heap.search(home)
+        place, word = yield from self.probe(home, places)
         if word is not None:
             return word.object
         if place is None:
@@ -213,28 +213,26 @@ class Calls:
         is_body = isinstance(record, Body)
         yield self.say and f"reads the first two words of home {home}: {'a Body' if is_body else 'a Stub'}"
         if is_body:
-            return (yield from self.bring_back(home, record, place))
+            return (yield from self.bring_back(home, record, place, places))
         obj = self.heap.scions.object_of(record.scion)
         if obj is None:
             raise Damaged(home, 1, record.scion)
         yield from self.clear(obj)
         return obj
 
-    def probe(self, home, first):
-        """Reads forwarding words from a place on, one an event: the place of one that names the home, with that word;
-        or that of an empty one, with None; or twice None where none is left."""
-        filled = self.heap.forward
-        if self.is_alone:     # the others that it would read say nothing
-            first = self.heap.places.get(home, len(filled))
-        for place in range(first, self.heap.most_forward):
-            word = filled[place] if place < len(filled) else None
+    def probe(self, home, places):
+        """Reads the forwarding words at these places, one an event: the place of the first one that names the home, with
+        that word; or that of an empty one before it, with None; or twice None where none is left."""
+        for place in places:
+            word = self.heap.forward[place]
             yield self.say and f"reads forwarding word {place}: {f'home {word.home}' if word else 'empty'}"
             if word is None or word.home == home:
                 return place, word
         return None, None
 
-    def bring_back(self, home, body, place):
-        """Copies an object into the heap, and commits the copy to an empty forwarding word."""
+    def bring_back(self, home, body, place, places):
+        """Copies an object into the heap, and commits the copy to the empty forwarding word that was found, or to the next
+        one at these places, which the search did not come to yet."""
         slots, numbers = [], []
         if body.slots + body.numbers:
             slots, numbers = self.disk.read_rest(home, body)
@@ -247,13 +245,13 @@ class Calls:
         yield from self.fill(first, 1)
         copy = Object(first, words, self.disk.names.get(home, 0), slots, numbers, home)
         while place is not None:
-            won = place == len(self.heap.forward)
+            won = self.heap.forward[place] is None
             if won:
-                self.heap.fill_forward(home, copy)
+                self.heap.fill_forward(place, home, copy)
             word = self.heap.forward[place]
             yield self.say and f"commits to forwarding word {place}: {'won' if won else f'lost to home {word.home}'}"
             if word.home != home:
-                place, word = yield from self.probe(home, place + 1)
+                place, word = yield from self.probe(home, places)
             if word is not None:
                 return word.object
         return self.refuse(ALL_FILLED)

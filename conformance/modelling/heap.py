@@ -3,8 +3,11 @@
 An object takes words one after the other: a header, a word for its home, its slots, and its number words. The words
 themselves are not kept: an object has what they say, and the address of the first.
 """
+import itertools
 from dataclasses import dataclass
 from typing import NamedTuple
+
+SPREAD = 2_654_435_769        # what a home is multiplied by for the start of its search
 
 
 def words_of(slots, numbers):
@@ -74,9 +77,7 @@ class Heap:
         self.size = size
         self.free = 1
         self.globals = [None] * globals_
-        self.forward = []     # the forwarding words that are filled, which are the first ones
-        self.places = {}      # the place of each of these, by its home
-        self.most_forward = forward
+        self.forward = [None] * forward   # each empty or a Forwarding
         self.scions = Scions()
 
     def begin(self):
@@ -89,19 +90,26 @@ class Heap:
         self.free += words
         return first if self.free <= self.size + 1 else None
 
-    def fill_forward(self, home, obj):
-        """Fills the first empty forwarding word."""
-        self.places[home] = len(self.forward)
-        self.forward.append(Forwarding(home, obj))
+    def search(self, home):
+        """The places of the forwarding words in the order in which the search for a home reads them: from a start of its
+        own on upwards, and from the last one to place 0."""
+        count = len(self.forward)
+        start = home * SPREAD % 2**32 % count
+        return itertools.chain(range(start, count), range(start))
+
+    def fill_forward(self, place, home, obj):
+        """Fills an empty forwarding word."""
+        self.forward[place] = Forwarding(home, obj)
 
     def settle(self, disk):
-        """Gives each object that came back since the last collection a scion, and its home a Stub: how many."""
-        for _, obj in self.forward:
+        """Gives each object that came back since the last collection a scion, and its home a Stub, in the order of the
+        places of their forwarding words: how many."""
+        filled = [word for word in self.forward if word is not None]
+        for _, obj in filled:
             self.scions.add(obj)
             disk.write_stub(obj)
-        settled = len(self.forward)
-        self.forward, self.places = [], {}
-        return settled
+        self.forward = [None] * len(self.forward)
+        return len(filled)
 
 
 def held_by(threads):

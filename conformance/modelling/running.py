@@ -98,7 +98,7 @@ class Run:
         self.heap = Heap(options.heap, script.globals, options.forward)
         self.threads = [Thread(number, program) for number, program in enumerate(script.programs)]
         self.is_alone = len(self.threads) == 1 and not say   # nobody sees that a call is made of events
-        self.calls = Calls(self.heap, self.disk, say, self.is_alone)
+        self.calls = Calls(self.heap, self.disk, say)
         self.turns = Turns(script.orders, self.threads)
         self.planned = INACTIVE
         self.journal = []

@@ -117,9 +117,9 @@ class CountingHeap(Heap):
         heap.__class__, heap.came_back = cls, 0
         return heap
 
-    def fill_forward(self, home, obj):
+    def fill_forward(self, place, home, obj):
         self.came_back += 1
-        super().fill_forward(home, obj)
+        super().fill_forward(place, home, obj)
 
 
 class CountingDisk(Disk):
