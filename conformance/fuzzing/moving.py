@@ -73,8 +73,37 @@ def commits(rng):
     size = rng.choice([1, 2, 3, 6])
     ordered += [f"order {rng.randrange(mood.threads)} {rng.randint(1, size)}" for _ in range(rng.choice([0, 10, 30, 60]))]
     given = options(rng, 30)
-    given.update(mark=0, move=0, forward=rng.choice([1, 2, 2, 3, 1_024]))
+    given.update(mark=0, move=0, forward=rng.choice([1, 2, 2, 3, 4, 7, 1_024]))
     return whole(mood, ordered, programs), given
+
+
+def meetings(rng):
+    """Objects of one size that come back to a few forwarding words, where the searches for many homes start at one place; while
+    they come, event by event, other threads bring back some more or write over what leads to them."""
+    threads, globals_, numbers = rng.choice([1, 2, 2, 2, 3, 3]), rng.randint(2, 7), rng.choice([0, 0, 1, 2, 2, 4, 6])
+    first = []
+    for g in range(globals_):
+        first += [f"new 0 0 {numbers}", *([f"put 0 0 {g + 1}"] if numbers and rng.random() < 0.3 else []), f"gstore {g} 0"]
+    first.append("drop 0")
+    programs = []
+    for number in range(threads):
+        wanted = [rng.randrange(globals_)] if number else rng.sample(range(globals_), rng.randint(1, globals_))
+        program = [f"gload {rng.randrange(3)} {g}" for g in wanted]
+        for _ in range(rng.randint(1, 6)):
+            g, r = rng.randrange(globals_), rng.randrange(3)
+            program += rng.choices([[f"gload {r} {g}"], [f"gstore {g} 15"], [f"gload {r} {g}", f"gload 15 {g}", f"same {r} 15", "drop 15"],
+                                    [f"get {r} 0"], ["collect"]], [6, 3, 2, 1, 0.3 if number else 1])[0]
+        programs.append(program)
+    begins = ["collect"] * (2 if threads > 1 else 3)
+    programs[0] = first + begins + programs[0] + rng.choice([[], ["collect"], asks(rng), asks(rng) + [f"gload 0 {g}" for g in range(globals_)]])
+    if threads > 1:
+        programs[1] = ["collect", *programs[1]]
+    ordered = [f"order 0 {events_exactly(first) + 1}"] if rng.random() < 0.9 else []
+    ordered += [f"order {number} 1" for number in range(1, threads)] + ["order 0 1"]
+    size = rng.choice([1, 2, 4, 9, 20])
+    ordered += [f"order {rng.randrange(threads)} {rng.randint(1, size)}" for _ in range(rng.choice([0, 10, 30, 60]))]
+    given = {"heap": max(16, globals_ * (2 + numbers) + rng.choice([0, 0, 6, 30])), "mark": 0, "move": 0, "forward": rng.randint(1, 7)}
+    return whole(Globals(globals_), ordered, programs), given
 
 
 def stubs(rng):
@@ -180,7 +209,7 @@ def options(rng, most):
     given = {"heap": rng.randint(16, most)} if rng.random() < 0.8 else {}
     given.update(rng.choice([{"mark": 0, "move": 0}] * 5 + [{}, {"mark": 0}, {"mark": rng.randint(0, 50), "move": rng.randint(50, 100)}]))
     if rng.random() < 0.6:
-        given["forward"] = rng.choice([1, 1, 1, 2, 2, 3, 5, 65_536])
+        given["forward"] = rng.choice([1, 1, 1, 2, 2, 3, 4, 5, 6, 7, 65_536])
     if rng.random() < 0.15:
         given["disk"] = rng.choice([2, rng.randint(2, 20), rng.randint(2, 60), 268_435_456])
     if rng.random() < 0.15:
@@ -188,7 +217,7 @@ def options(rng, most):
     return given
 
 
-MOVING_KINDS = [returns, returns, returns, commits, commits, commits, stubs, stubs, leaks, leaks, holds, disks, others, others]
+MOVING_KINDS = [returns, returns, returns, commits, commits, commits, meetings, meetings, meetings, stubs, stubs, leaks, leaks, holds, disks, others, others]
 
 
 def trace(rng):

@@ -45,7 +45,7 @@ def options_of(rng, given):
     if "heap" not in given or given["heap"] > LARGEST_HEAP:
         given["heap"] = rng.choice([16, 32, 64, 256, LARGEST_HEAP])
     if "forward" in given or rng.random() < 0.3:
-        given["forward"] = rng.choice([1, 1, 1, 2, 5])
+        given["forward"] = rng.choice([1, 1, 1, 2, 3, 5, 7])
     if rng.random() < 0.1:
         given["disk"] = rng.randint(2, 80)
     if rng.random() < 0.3:
