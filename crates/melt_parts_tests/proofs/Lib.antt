@@ -1,3 +1,4 @@
 mod Written
+mod Gaps
 mod WordAt
 mod Testing
