@@ -3,8 +3,8 @@ use Rattle.std.proofs.lemmas.Grind.{common_steps}
 use Rattle.melt_parts_tests.proofs.tests.scion.scions.a_walk_passes_each_live_scion.Goals as goal
 
 -- the first scion is another than the two that were added behind it and than the one that was freed
-pub next-requires : goal.next-requires
-next-requires c =
+pub next-requires-2 : goal.next-requires-2
+next-requires-2 c =
     let at_free = c.free.ensures.frees.others 1 in
     let at_third = c.add-3.ensures.adds.others 1 in
     let at_second = c.add-2.ensures.adds.others 1 in
