@@ -8,12 +8,23 @@ import tempfile
 import time
 
 from fuzzing.calls import call_of
+from modelling.disk import WordsInMemory
 from modelling.program import answer
 
 HERE = pathlib.Path(__file__).resolve().parent.parent
 TOP = HERE.parent
 ROUNDS = (30, 150, 600)        # after so many traces it is seen whether a wrong program was found; each round builds anew
 LARGEST_CASE = 1_000_000  # bytes of a trace that a wrong program is run on
+
+# `rt try` tells the output of a program and its status, and throws its folder away. So each is built with a `main` that writes
+# its file behind its output, if there is one.
+MAIN = "melt_top/src/main.rt"
+END_OF_MAIN = "    ExitCode::from(status.code())\n"
+SHOWS_FILE = """    if let Ok(stale) = std::fs::read(&rt, "melt.stale") {
+        let _shown = std::io::Write::write_all(&mut rt.stdout(), b"melt.stale\\n");
+        let _shown = std::io::Write::write_all(&mut rt.stdout(), &stale);
+    }
+"""
 
 
 def read_body(path):
@@ -46,6 +57,8 @@ def copy_crates(texts, folder):
     shutil.copytree(TOP / "crates", folder / "crates", ignore=shutil.ignore_patterns("out", "must-fail"))
     for file, text in texts.items():
         (folder / "crates" / file).write_text(text)
+    main = folder / "crates" / MAIN
+    main.write_text(main.read_text().replace(END_OF_MAIN, SHOWS_FILE + END_OF_MAIN))
 
 
 def write_cases(folder, given, numbers):
@@ -55,13 +68,19 @@ def write_cases(folder, given, numbers):
         words, data = call_of(given.seed, number, given.kind)
         if len(data) > LARGEST_CASE or any(not word or "\n" in word for word in words):
             continue
-        status, output = answer(words, lambda: data)
+        disk = WordsInMemory()
+        status, output = answer(words, lambda: data, disk)
         name = f"t{number:05}"
         (folder / name).write_bytes(data)
         (folder / f"{name}.args").write_text("".join(word + "\n" for word in words))
-        (folder / f"{name}.stdout").write_bytes(output)
+        (folder / f"{name}.stdout").write_bytes(output + shown(disk.content()))
         wanted[name] = status
     return wanted
+
+
+def shown(stale):
+    """What is written of the file behind the output."""
+    return b"" if stale is None else b"melt.stale\n" + stale
 
 
 def verdicts(text):
@@ -75,7 +94,7 @@ def verdicts(text):
 
 
 def shows(wanted, fields):
-    """Whether a run differs from the model: another end, status or output."""
+    """Whether a run differs from the model: another end, status, output or file."""
     return fields.get("run") != "ended" or fields.get("status") != str(wanted) or fields.get("output") != "expected"
 
 
