@@ -13,7 +13,7 @@ abbrev pub Searched : List ℕ → ℕ → ℕ → Type 0
 Searched words home n = (k : ℕ) → k < n → SendsAnother (probed words home k) home
 
 -- an empty word sends none
-empty_sends_not : (word home : ℕ) → word ≡ 0 → SendsNot word home
+pub empty_sends_not : (word home : ℕ) → word ≡ 0 → SendsNot word home
 empty_sends_not word home empty = λ address sends. grind arith
 
 -- one that sends another home is not empty, and does not send this one

@@ -1,5 +1,5 @@
--- One field of a place is written.
-use Rattle.std.proofs.Common.{◌≡◌, ◌≢◌, inl, inr, ℕ, ◌<◌, List, length, sym, ◌∙◌, ap, slice_index_or, slice_set}
+-- One field of a place is written. The two others, and all other places, are as they were.
+use Rattle.std.proofs.Common.{◌≡◌, ◌≢◌, inl, inr, ℕ, ◌<◌, List, length, refl, sym, ◌∙◌, ap, slice_index_or, slice_set}
 use Rattle.std.proofs.Common.{get_or-set_same, get_or-set_other}
 use Rattle.std.proofs.lemmas.Bool.{cases_eq}
 use Rattle.std.proofs.lemmas.List.{length-set, get_or_default}
@@ -17,6 +17,22 @@ pub read : (places : List Place) (k : ℕ) (p : Place) → k < length places →
     → place_at places k ≡ p
 read places k p below is = get_or_default places k none p below ∙ sym is
 
+-- the other places are as they were
+others : (places : List Place) (k : ℕ) (q : Place) (j : ℕ) → j ≢ k
+    → place_at (slice_set places k q) j ≡ place_at places j
+others places k q j differ = get_or-set_other places k j q none differ
+
+-- and so is a field, everywhere, that the new place has of the old one
+kept : (field : Place → ℕ) (places : List Place) (k : ℕ) (p q : Place) → k < length places
+    → p ≡ slice_index_or places k p → field q ≡ field p
+    → (j : ℕ) → field (place_at (slice_set places k q) j) ≡ field (place_at places j)
+kept field places k p q below is same j =
+    elim (cases_eq j k) [
+      | inl here ↦ rw here (ap field (get_or-set_same places k q none below) ∙ same
+          ∙ sym (ap field (read places k p below is)))
+      | inr differ ↦ ap field (others places k q j differ)
+    ]
+
 pub record SetsNext (old new : List Place) (k n : ℕ) : Type 0 where
   pub size : length new ≡ length old
   pub here : next_of new k ≡ n
@@ -28,22 +44,12 @@ pub sets_next : (places : List Place) (k n : ℕ) (p : Place) → k < length pla
     → SetsNext places (slice_set places k (record { next = n; prev = p.prev; list = p.list })) k n
 sets_next places k n p below is =
     let q : Place = record { next = n; prev = p.prev; list = p.list } in
-    let old = read places k p below is in
-    let here = get_or-set_same places k q none below in
-    let others : ((j : ℕ) → j ≢ k → place_at (slice_set places k q) j ≡ place_at places j) =
-    λ j differ. get_or-set_other places k j q none differ in
     record {
       size = length-set places k q;
-      here = ap (λ (x : Place). x.next) here;
-      nexts = λ j differ. ap (λ (x : Place). x.next) (others j differ);
-      prevs = λ j. elim (cases_eq j k) [
-        | inl same ↦ rw same (ap (λ (x : Place). x.prev) here ∙ sym (ap (λ (x : Place). x.prev) old))
-        | inr differ ↦ ap (λ (x : Place). x.prev) (others j differ)
-      ];
-      lists = λ j. elim (cases_eq j k) [
-        | inl same ↦ rw same (ap (λ (x : Place). x.list) here ∙ sym (ap (λ (x : Place). x.list) old))
-        | inr differ ↦ ap (λ (x : Place). x.list) (others j differ)
-      ];
+      here = ap (λ (x : Place). x.next) (get_or-set_same places k q none below);
+      nexts = λ j differ. ap (λ (x : Place). x.next) (others places k q j differ);
+      prevs = kept (λ (x : Place). x.prev) places k p q below is refl;
+      lists = kept (λ (x : Place). x.list) places k p q below is refl;
     }
 
 pub record SetsPrev (old new : List Place) (k n : ℕ) : Type 0 where
@@ -57,22 +63,12 @@ pub sets_prev : (places : List Place) (k n : ℕ) (p : Place) → k < length pla
     → SetsPrev places (slice_set places k (record { next = p.next; prev = n; list = p.list })) k n
 sets_prev places k n p below is =
     let q : Place = record { next = p.next; prev = n; list = p.list } in
-    let old = read places k p below is in
-    let here = get_or-set_same places k q none below in
-    let others : ((j : ℕ) → j ≢ k → place_at (slice_set places k q) j ≡ place_at places j) =
-    λ j differ. get_or-set_other places k j q none differ in
     record {
       size = length-set places k q;
-      here = ap (λ (x : Place). x.prev) here;
-      prevs = λ j differ. ap (λ (x : Place). x.prev) (others j differ);
-      nexts = λ j. elim (cases_eq j k) [
-        | inl same ↦ rw same (ap (λ (x : Place). x.next) here ∙ sym (ap (λ (x : Place). x.next) old))
-        | inr differ ↦ ap (λ (x : Place). x.next) (others j differ)
-      ];
-      lists = λ j. elim (cases_eq j k) [
-        | inl same ↦ rw same (ap (λ (x : Place). x.list) here ∙ sym (ap (λ (x : Place). x.list) old))
-        | inr differ ↦ ap (λ (x : Place). x.list) (others j differ)
-      ];
+      here = ap (λ (x : Place). x.prev) (get_or-set_same places k q none below);
+      prevs = λ j differ. ap (λ (x : Place). x.prev) (others places k q j differ);
+      nexts = kept (λ (x : Place). x.next) places k p q below is refl;
+      lists = kept (λ (x : Place). x.list) places k p q below is refl;
     }
 
 pub record SetsList (old new : List Place) (k n : ℕ) : Type 0 where
@@ -86,20 +82,10 @@ pub sets_list : (places : List Place) (k n : ℕ) (p : Place) → k < length pla
     → SetsList places (slice_set places k (record { next = p.next; prev = p.prev; list = n })) k n
 sets_list places k n p below is =
     let q : Place = record { next = p.next; prev = p.prev; list = n } in
-    let old = read places k p below is in
-    let here = get_or-set_same places k q none below in
-    let others : ((j : ℕ) → j ≢ k → place_at (slice_set places k q) j ≡ place_at places j) =
-    λ j differ. get_or-set_other places k j q none differ in
     record {
       size = length-set places k q;
-      here = ap (λ (x : Place). x.list) here;
-      lists = λ j differ. ap (λ (x : Place). x.list) (others j differ);
-      nexts = λ j. elim (cases_eq j k) [
-        | inl same ↦ rw same (ap (λ (x : Place). x.next) here ∙ sym (ap (λ (x : Place). x.next) old))
-        | inr differ ↦ ap (λ (x : Place). x.next) (others j differ)
-      ];
-      prevs = λ j. elim (cases_eq j k) [
-        | inl same ↦ rw same (ap (λ (x : Place). x.prev) here ∙ sym (ap (λ (x : Place). x.prev) old))
-        | inr differ ↦ ap (λ (x : Place). x.prev) (others j differ)
-      ];
+      here = ap (λ (x : Place). x.list) (get_or-set_same places k q none below);
+      lists = λ j differ. ap (λ (x : Place). x.list) (others places k q j differ);
+      nexts = kept (λ (x : Place). x.next) places k p q below is refl;
+      prevs = kept (λ (x : Place). x.prev) places k p q below is refl;
     }

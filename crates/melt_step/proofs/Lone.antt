@@ -20,7 +20,7 @@ use Rattle.melt_word.proofs.OneToOne.{same_ref}
 use Rattle.melt_record.specs.declared.head.Head.{Head}
 use Rattle.melt_record.specs.declared.head.Kind.TheVariants.{Body, Stub}
 use Rattle.melt_record.proofs.Heads.{same_head}
-use Rattle.melt_forward.specs.Forwarding.{SendsNot}
+use Rattle.melt_forward.proofs.Searching.{empty_sends_not}
 use Rattle.melt_scion.specs.Commits.{HasHead}
 use Rattle.melt_scion.specs.Heaps.{OnDisk, register_in}
 use Rattle.melt_scion.specs.Placed.{Maps, HomeStands, Stands, value_of}
@@ -63,10 +63,6 @@ record IsAway (h : List Entry) (maps : Maps) (n words : ℕ) : Type 0 where
 words_by : (h : List Entry) (n : ℕ) (z : Shape) → shape h n ≡ Some (record { refs = z.refs; nums = z.nums })
     → words_of h n ≡ cost_of z
 words_by h n z is = ap (λ (o : Option model.Shape). option_map_or (λ (y : model.Shape). 2 + y.refs + y.nums) o 0) is
-
--- an empty forwarding word sends no home
-pub empty_sends_not : (word home : ℕ) → word ≡ 0 → SendsNot word home
-empty_sends_not word home empty = λ address sends. grind arith
 
 -- Of the three that a home may be it is a Body then: the object has no address, and its shape is the one that was read.
 home_away : (v : View) (disk : OnDisk) (home n : ℕ) (z : Shape) → NoneForwarded v

@@ -18,6 +18,7 @@ use Rattle.melt_record.specs.declared.damage.Damaged.{Damaged}
 use Rattle.melt_record.specs.declared.head.Kind.{Kind}
 use Rattle.melt_record.specs.declared.head.Kind.TheVariants.{Body, Stub}
 use Rattle.melt_space.specs.Space.{word_at}
+use Rattle.melt_forward.proofs.Searching.{empty_sends_not}
 use Rattle.melt_scion.specs.Changes.{SameWords, FreeMoves}
 use Rattle.melt_scion.specs.Commits.{HasHead}
 use Rattle.melt_scion.specs.Heaps.{OnDisk, no_homes_on, register_in}
@@ -61,7 +62,7 @@ use Rattle.melt_step.specs.Lone.{CalledOver, IsAloneReady}
 use Rattle.melt_safepoint.specs.Tables.{DropsIfEnded}
 use Rattle.melt_step.proofs.Calling.{Begins, KeepsOthers_both, dropped_stands, lost_state, stop_dropped, thread_there}
 use Rattle.melt_step.proofs.Calling.{told_state}
-use Rattle.melt_step.proofs.Lone.{empty_sends_not, load_needs}
+use Rattle.melt_step.proofs.Lone.{load_needs}
 
 -- Names, words, globals and forwarding words are as they were when the call began.
 pub record Keeps (v w : View) : Type 0 where
