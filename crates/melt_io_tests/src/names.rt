@@ -1,5 +1,7 @@
 //! Tests of which file a disk makes in a folder, and that it keeps it whatever becomes of the name. Each runs in a folder of its
 //! own.
+
+use crate::tests::read_into;
 use melt_io::{Failed, FileDisk, RecordReader, StaleDisk};
 use melt_same::same;
 use std::alloc::{Allocator, Global};
@@ -26,13 +28,30 @@ fn leave(rt: &HostRuntime, folder: &str) -> Result<(), Fail> {
 }
 
 /// Reads two words of the disk by a reader of its own.
-fn two_words<D: StaleDisk>(alloc: Global, disk: &mut D, at: u8) -> Result<[u64; 2], Fail> {
-    let mut reader = disk.lend(alloc).ok().ok_or("no reader")?;
+fn two_words<D: StaleDisk>(alloc: Global, disk: &mut D, at: u8) -> Option<[u64; 2]> {
     let mut words = [9; 2];
-    let read = reader.read_at(u32::from(at), &mut words);
-    disk.give_back(reader);
-    read?;
-    Ok(words)
+    read_into(alloc, disk, at, &mut words).ok()?;
+    Some(words)
+}
+
+/// Writes to two disks in one folder, and reads both while a reader is lent by the first.
+fn write_to_both<D: StaleDisk>(alloc: Global, first: &mut D, second: &mut D) -> Result<(), Fail> {
+    first.write_at(1, &[5, 6])?;
+    let mut lent = first.lend(alloc)?;
+    let written = [second.write_at(1, &[7, 8, 9]), first.write_at(2, &[4])];
+    let mut words = [0; 3];
+    let read = lent.read_at(1, &mut words);
+    let others = [
+        two_words(alloc, first, 1),
+        two_words(alloc, second, 1),
+        two_words(alloc, second, 3),
+    ];
+    first.give_back(lent);
+    same(
+        (written, read, words),
+        ([Ok(()), Ok(())], Ok(()), [5, 4, 0]),
+    )?;
+    same(others, [Some([5, 4]), Some([7, 8]), Some([9, 0])])
 }
 
 #[test]
@@ -40,55 +59,78 @@ fn disks_in_one_folder_keep_their_own_words(rt: HostRuntime) -> Result<(), Fail>
     enter(&rt, "own_words")?;
     let mut first = FileDisk::new(rt.alloc(), rt)?;
     let mut second = FileDisk::new(rt.alloc(), rt)?;
-    first.write_at(1, &[5, 6])?;
-    let mut lent = first.lend(rt.alloc()).ok().ok_or("no reader")?;
-    second.write_at(1, &[7, 8, 9])?;
-    first.write_at(2, &[4])?;
-
-    let mut words = [0; 3];
-    lent.read_at(1, &mut words)?;
-    same(words, [5, 4, 0])?;
-    same(two_words(rt.alloc(), &mut first, 1)?, [5, 4])?;
-    same(two_words(rt.alloc(), &mut second, 1)?, [7, 8])?;
-    same(two_words(rt.alloc(), &mut second, 3)?, [9, 0])?;
+    write_to_both(rt.alloc(), &mut first, &mut second)?;
     leave(&rt, "own_words")
+}
+
+/// Reads one word.
+fn word_of<R: RecordReader>(reader: &mut R, at: u8) -> Option<u64> {
+    let mut word = [9];
+    reader.read_at(u32::from(at), &mut word).ok()?;
+    Some(word[0])
+}
+
+/// Reads words in turn by two readers of a disk of which each word is its own number.
+fn read_in_turn<R: RecordReader>(low: &mut R, high: &mut R) -> Result<(), Fail> {
+    for (at, behind) in [(1, 3), (2, 4), (1, 3)] {
+        let words = (word_of(low, at), word_of(high, behind));
+        let wanted = (Some(u64::from(at)), Some(u64::from(behind)));
+        same((at, words), (at, wanted))?;
+    }
+    Ok(())
+}
+
+/// Lends two readers of a disk, to which a word is written then.
+fn lend_two<D: StaleDisk>(alloc: Global, disk: &mut D) -> Result<(), Fail> {
+    disk.write_at(1, &[1, 2, 3, 4])?;
+    let mut low = disk.lend(alloc)?;
+    let mut high = disk.lend(alloc)?;
+    read_in_turn(&mut low, &mut high)?;
+    let written = disk.write_at(5, &[5]);
+    same((written, word_of(&mut high, 5)), (Ok(()), Some(5)))
 }
 
 #[test]
 fn readers_of_one_file_read_each_at_its_own_place(rt: HostRuntime) -> Result<(), Fail> {
     enter(&rt, "places")?;
     let mut disk = FileDisk::new(rt.alloc(), rt)?;
-    disk.write_at(1, &[1, 2, 3, 4])?;
-    let mut low = disk.lend(rt.alloc()).ok().ok_or("no reader")?;
-    let mut high = disk.lend(rt.alloc()).ok().ok_or("no reader")?;
-    let mut word = [9];
-    for (at, want) in [(1, 1), (2, 2), (1, 1)] {
-        low.read_at(at, &mut word)?;
-        same(word, [want])?;
-        high.read_at(at + 2, &mut word)?;
-        same(word, [want + 2])?;
-    }
-    disk.write_at(5, &[5])?;
-    high.read_at(5, &mut word)?;
-    same(word, [5])?;
+    lend_two(rt.alloc(), &mut disk)?;
     leave(&rt, "places")
+}
+
+/// Fails where a file has another text.
+fn same_text(rt: &HostRuntime, path: &str, wanted: &str) -> Result<(), Fail> {
+    let text = fs::read_to_string(rt, path)?;
+    same(text.as_str(), wanted)
+}
+
+/// Writes to a disk before and after another file takes the name of its own.
+fn exchange<D: StaleDisk>(rt: &HostRuntime, disk: &mut D) -> Result<(), Fail> {
+    disk.write_at(1, &[5, 6])?;
+    fs::remove_file(rt, "melt.stale")?;
+    same(two_words(rt.alloc(), disk, 1), Some([5, 6]))?;
+
+    fs::write(rt, "melt.stale", "of another")?;
+    disk.write_at(2, &[7])?;
+    same(two_words(rt.alloc(), disk, 1), Some([5, 7]))?;
+    same_text(rt, "melt.stale", "of another")
 }
 
 #[test]
 fn what_becomes_of_the_name_changes_nothing(rt: HostRuntime) -> Result<(), Fail> {
     enter(&rt, "exchanged")?;
     let mut disk = FileDisk::new(rt.alloc(), rt)?;
-    disk.write_at(1, &[5, 6])?;
-    fs::remove_file(&rt, "melt.stale")?;
-    same(two_words(rt.alloc(), &mut disk, 1)?, [5, 6])?;
+    exchange(&rt, &mut disk)?;
+    leave(&rt, "exchanged")?;
+    same(disk.faults.count(), 0)
+}
 
-    fs::write(&rt, "melt.stale", "of another")?;
-    disk.write_at(2, &[7])?;
-    same(two_words(rt.alloc(), &mut disk, 1)?, [5, 7])?;
-    let other = fs::read_to_string(&rt, "melt.stale")?;
-    same(other.as_str(), "of another")?;
-    same(disk.faults.count(), 0)?;
-    leave(&rt, "exchanged")
+/// Writes the word 5 to a new disk in this folder, and reads it.
+fn write_one(rt: HostRuntime) -> Result<(), Fail> {
+    let mut disk = FileDisk::new(rt.alloc(), rt)?;
+    let written = disk.write_at(1, &[5]);
+    let words = two_words(rt.alloc(), &mut disk, 1);
+    same((written, words), (Ok(()), Some([5, 0])))
 }
 
 #[test]
@@ -102,26 +144,33 @@ fn a_link_is_removed_and_not_followed(rt: HostRuntime) -> Result<(), Fail> {
         } else {
             symlink(&rt, "target", "melt.stale")?;
         }
-        let mut disk = FileDisk::new(rt.alloc(), rt)?;
-        disk.write_at(1, &[5])?;
-        same(two_words(rt.alloc(), &mut disk, 1)?, [5, 0])?;
-        let kept = fs::read_to_string(&rt, "target")?;
-        same((is_hard, kept.as_str()), (is_hard, "kept"))?;
-        same(fs::symlink_metadata(&rt, "melt.stale")?.is_file(), true)?;
+        write_one(rt)?;
+        same_text(&rt, "target", "kept")?;
+        let is_file = fs::symlink_metadata(&rt, "melt.stale")?.is_file();
+        same((is_hard, is_file), (is_hard, true))?;
     }
     leave(&rt, "links")
+}
+
+/// Writes to a new disk while a folder has the name of its file, and when it has gone.
+fn write_past_folder(rt: HostRuntime) -> Result<(), Fail> {
+    let mut disk = FileDisk::new(rt.alloc(), rt)?;
+    let refused = disk.write_at(1, &[5]);
+    let faults = [disk.faults.count(), disk.file.faults.count()];
+    let is_removed = fs::remove_dir(&rt, "melt.stale").is_ok();
+    let written = disk.write_at(1, &[5]);
+    let words = two_words(rt.alloc(), &mut disk, 1);
+    same(
+        (refused, faults, is_removed, written, words),
+        (Err(Failed), [1, 1], true, Ok(()), Some([5, 0])),
+    )
 }
 
 #[test]
 fn a_folder_of_that_name_is_a_fault_and_stays(rt: HostRuntime) -> Result<(), Fail> {
     enter(&rt, "folders")?;
     fs::create_dir(&rt, "melt.stale")?;
-    let mut disk = FileDisk::new(rt.alloc(), rt)?;
-    same(disk.write_at(1, &[5]), Err(Failed))?;
-    same((disk.faults.count(), disk.file.faults.count()), (1, 1))?;
-    fs::remove_dir(&rt, "melt.stale")?;
-    disk.write_at(1, &[5])?;
-    same(two_words(rt.alloc(), &mut disk, 1)?, [5, 0])?;
+    write_past_folder(rt)?;
     leave(&rt, "folders")
 }
 
@@ -129,9 +178,9 @@ fn a_folder_of_that_name_is_a_fault_and_stays(rt: HostRuntime) -> Result<(), Fai
 fn only_its_owner_may_read_and_write_the_file(rt: HostRuntime) -> Result<(), Fail> {
     enter(&rt, "owners")?;
     fs::write(&rt, "melt.stale", "readable by all")?;
-    let mut disk = FileDisk::new(rt.alloc(), rt)?;
-    disk.write_at(1, &[5])?;
-    same(fs::metadata(&rt, "melt.stale")?.mode() & 0o777, 0o600)?;
+    write_one(rt)?;
+    let mode = fs::metadata(&rt, "melt.stale")?.mode();
+    same(mode & 0o777, 0o600)?;
     leave(&rt, "owners")
 }
 
@@ -195,20 +244,25 @@ impl Files for Contested {
     }
 }
 
+/// Writes to a new disk in a folder in which so many other runs are faster. It fails where they are a thousand.
+fn write_late(rt: HostRuntime, others: u32) -> Result<(), Fail> {
+    let files = Contested {
+        files: rt,
+        others: Cell::new(others),
+    };
+    let mut disk = FileDisk::new(rt.alloc(), files)?;
+    let is_refused = disk.write_at(1, &[5]).is_err();
+    let left = disk.file.runtime.others.get();
+    same((others, is_refused, left), (others, others == 1000, 0))
+}
+
 #[test]
 fn faster_runs_are_waited_for_and_not_forever(rt: HostRuntime) -> Result<(), Fail> {
     enter(&rt, "faster")?;
-    for others in [3, 999, 1000] {
-        let files = Contested {
-            files: rt,
-            others: Cell::new(others),
-        };
-        let mut disk = FileDisk::new(rt.alloc(), files)?;
-        let is_late = others == 1000;
-        same((others, disk.write_at(1, &[5]).is_err()), (others, is_late))?;
-        same(disk.file.runtime.others.get(), 0)?;
+    for (others, wanted) in [(3, 16), (999, 16), (1000, 10)] {
+        write_late(rt, others)?;
         let left = fs::metadata(&rt, "melt.stale")?.len();
-        same((others, left), (others, if is_late { 10 } else { 16 }))?;
+        same((others, left), (others, wanted))?;
     }
     leave(&rt, "faster")
 }
