@@ -14,15 +14,11 @@ fn a_list_has_what_was_put_into_it(rt: HostRuntime) -> Result<(), Fail> {
     let mut links = Links::new(rt.alloc(), 4, 2)?;
     links.push_front(0, 1);
     links.push_front(0, 3);
-    same(links.first(0), Some(3))?;
-    same(links.next(3), Some(1))?;
-    same(links.next(1), None)?;
-    same(links.first(1), None)?;
+    let before = [links.first(0), links.next(3), links.next(1), links.first(1)];
     links.unlink(3);
-    same(links.first(0), Some(1))?;
-    same(links.list_of(3), None)?;
-    same(links.list_of(1), Some(0))?;
-    Ok(())
+    let after = [links.first(0), links.list_of(3), links.list_of(1)];
+    let wanted = [Some(3), Some(1), None, None];
+    same((before, after), (wanted, [Some(1), None, Some(0)]))
 }
 
 /// Compares a list, from its first node to the end, with pairs of a list and a node. Those that were put there last
@@ -62,6 +58,25 @@ fn compare(links: &Links, put: &[(u32, u32)]) -> Result<(), Fail>
     compare_nodes(links, put)
 }
 
+/// Takes a node out of the list in which it stands, or else puts it into this one, and compares all lists.
+fn move_node(links: &mut Links, put: &mut Vec<(u32, u32)>, list: u32, node: u32) -> Result<(), Fail>
+    requires nodes { links.old.nodes ≡ 16 }
+    requires lists { length links.old.lists ≡ 3 }
+    requires node { node < 16 }
+    requires list { list < 3 }
+    ensures nodes { links.new.nodes ≡ 16 }
+    ensures lists { length links.new.lists ≡ 3 }
+{
+    if let Some(_) = links.list_of(node) {
+        links.unlink(node);
+        put.retain(|pair| pair.1 != node);
+    } else {
+        links.push_front(list, node);
+        put.push((list, node))?;
+    }
+    compare(links, put)
+}
+
 #[test]
 fn random_calls_leave_what_a_plain_vector_has(rt: HostRuntime) -> Result<(), Fail> {
     let mut links = Links::new(rt.alloc(), NODES, LISTS)?;
@@ -71,14 +86,7 @@ fn random_calls_leave_what_a_plain_vector_has(rt: HostRuntime) -> Result<(), Fai
         draw = draw.wrapping_mul(1_664_525).wrapping_add(1_013_904_223);
         let list = (draw >> 16) % LISTS;
         let node = (draw >> 24) % NODES;
-        if let Some(_) = links.list_of(node) {
-            links.unlink(node);
-            put.retain(|pair| pair.1 != node);
-        } else {
-            links.push_front(list, node);
-            put.push((list, node))?;
-        }
-        compare(&links, &put)?;
+        move_node(&mut links, &mut put, list, node)?;
     }
     Ok(())
 }

@@ -21,9 +21,8 @@ fn crosses<T: Send + Sync>(value: T) -> T {
 
 #[test]
 fn maps_take_no_bytes_and_cross_threads(rt: HostRuntime) -> Result<(), Fail> {
-    let maps = crosses(with_number(GhostMaps::none(), 3, 7));
     same(size_of::<GhostMaps>(), 0)?;
+    let maps = crosses(with_number(GhostMaps::none(), 3, 7));
     let text = format!(in rt.alloc(); "{maps:?}")?;
-    same(text.as_str(), "GhostMaps")?;
-    Ok(())
+    same(text.as_str(), "GhostMaps")
 }

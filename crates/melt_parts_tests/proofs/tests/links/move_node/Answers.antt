@@ -1,4 +1,4 @@
-use Rattle.melt_parts_tests.proofs.tests.links.random_calls_leave_what_a_plain_vector_has.Goals as goal
+use Rattle.melt_parts_tests.proofs.tests.links.move_node.Goals as goal
 
 pub unlink-requires : goal.unlink-requires
 unlink-requires c =

@@ -1,6 +1,6 @@
 use Rattle.std.proofs.Common.{arith}
 use Rattle.std.proofs.lemmas.Grind.{common_steps}
-use Rattle.melt_parts_tests.proofs.tests.scion.scions.numbers_are_given_in_order_and_the_last_freed_first.Goals as goal
+use Rattle.melt_parts_tests.proofs.tests.scion.scions.give_again.Goals as goal
 
 -- the first scion is another than the two that were added behind it and than the one that was freed
 pub free-requires-2 : goal.free-requires-2
