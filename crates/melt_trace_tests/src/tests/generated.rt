@@ -6,8 +6,16 @@ use melt_trace::print;
 use std::alloc::Global;
 use std::test::Fail;
 
-/// Sees whether the text of a trace begins and ends with these lines. Thread 0 draws from the largest seed, thread 1
-/// from 0.
+/// The text of a generated trace. Thread 0 draws from the largest seed, thread 1 from 0.
+fn text_of(alloc: Global, kind: Workload, size: u32, threads: u32) -> Result<Vec<u8>, Fail>
+    requires size { (1 ≤ size) × (size ≤ 100000) }
+    requires threads { (1 ≤ threads) × (threads ≤ 8) }
+{
+    let trace = generate(alloc, kind, u64::MAX, size, threads)?;
+    Ok(print(alloc, &trace)?)
+}
+
+/// Sees whether the text of a trace begins and ends with these lines.
 fn expect_ends(
     alloc: Global,
     kind: Workload,
@@ -18,11 +26,9 @@ fn expect_ends(
     requires size { (1 ≤ size) × (size ≤ 100000) }
     requires threads { (1 ≤ threads) × (threads ≤ 8) }
 {
-    let trace = generate(alloc, kind, u64::MAX, size, threads)?;
-    let text = print(alloc, &trace)?;
-    same((threads, text.starts_with(ends.0)), (threads, true))?;
-    same((threads, text.ends_with(ends.1)), (threads, true))?;
-    Ok(())
+    let text = text_of(alloc, kind, size, threads)?;
+    let got = (threads, text.starts_with(ends.0), text.ends_with(ends.1));
+    same(got, (threads, true, true))
 }
 
 #[test]
@@ -56,8 +62,7 @@ fn lists(rt: HostRuntime) -> Result<(), Fail> {
             load 1 1 0\nget 1 0\nload 1 1 0\nget 1 0\ndrop 0\ndrop 1\ndone\n"
             .as_slice(),
     );
-    expect_ends(rt.alloc(), Workload::List, 2, 8, ends)?;
-    Ok(())
+    expect_ends(rt.alloc(), Workload::List, 2, 8, ends)
 }
 
 #[test]
@@ -89,8 +94,7 @@ fn queues(rt: HostRuntime) -> Result<(), Fail> {
             store 0 1 1\ngstore 15 0\ndrop 0\ndrop 1\ndrop 2\ndone\n"
             .as_slice(),
     );
-    expect_ends(rt.alloc(), Workload::Queue, 4, 8, ends)?;
-    Ok(())
+    expect_ends(rt.alloc(), Workload::Queue, 4, 8, ends)
 }
 
 #[test]
@@ -118,8 +122,7 @@ fn tables(rt: HostRuntime) -> Result<(), Fail> {
             drop 0\ndrop 1\ndrop 2\ndone\n"
             .as_slice(),
     );
-    expect_ends(rt.alloc(), Workload::Table, 16, 8, ends)?;
-    Ok(())
+    expect_ends(rt.alloc(), Workload::Table, 16, 8, ends)
 }
 
 #[test]
@@ -154,24 +157,20 @@ fn trees(rt: HostRuntime) -> Result<(), Fail> {
             done\n"
             .as_slice(),
     );
-    expect_ends(rt.alloc(), Workload::Tree, 6, 8, ends)?;
-    Ok(())
+    expect_ends(rt.alloc(), Workload::Tree, 6, 8, ends)
 }
 
 #[test]
 fn two_lists_of_a_thousand(rt: HostRuntime) -> Result<(), Fail> {
     let trace = generate(rt.alloc(), Workload::List, 1, 1000, 2)?;
     same(trace.threads(), 2)?;
-    same(trace.count(0), 7018)?;
-    same(trace.count(1), 7018)?;
-    Ok(())
+    same([trace.count(0), trace.count(1)], [7018, 7018])
 }
 
 #[test]
 fn the_most_operations(rt: HostRuntime) -> Result<(), Fail> {
-    let trace = generate(rt.alloc(), Workload::List, 1, 18_722, 8)?;
-    same(trace.count(7), 131_072)?;
     let refused = generate(rt.alloc(), Workload::List, 1, 18_723, 8).err();
     same(refused, Some(GenRefusal::TooMany))?;
-    Ok(())
+    let trace = generate(rt.alloc(), Workload::List, 1, 18_722, 8)?;
+    same(trace.count(7), 131_072)
 }

@@ -1,7 +1,7 @@
-use super::first_order;
+use super::{first_order, same_operations, same_text};
 use melt_model::Op;
 use melt_same::same;
-use melt_trace::{ParseRefusal, TraceError, parse, print};
+use melt_trace::{ParseRefusal, Trace, TraceError, parse};
 use std::alloc::Global;
 use std::test::Fail;
 
@@ -13,6 +13,17 @@ fn refusal(alloc: Global, text: &[u8]) -> Option<(u32, u32)> {
     }
 }
 
+/// Fails where the trace of `what_a_trace_says` has other globals, turns or operations.
+fn same_parts(trace: &Trace) -> Result<(), Fail> {
+    let got = (trace.globals(), trace.orders(), first_order(trace));
+    same(got, (3, 1, Some((1, 7))))?;
+    let (dst, refs, nums) = (15, 62, 0);
+    let (obj, j, v) = (1, 2, u64::MAX);
+    let put = Op::Put { obj, j, v };
+    same_operations(trace, 2, 0, &[Op::New { dst, refs, nums }, put, put, put])?;
+    same_operations(trace, 2, 1, &[Op::Collect])
+}
+
 #[test]
 fn what_a_trace_says(rt: HostRuntime) -> Result<(), Fail> {
     let trace = parse(
@@ -20,38 +31,29 @@ fn what_a_trace_says(rt: HostRuntime) -> Result<(), Fail> {
         b"# a trace\nmelt  1\n\n threads 2\nglobals 3\norder 1 7\nthread 0\nnew 15 62 0\nrepeat 3\n\
             put 1 2 18446744073709551615\nend\ndone\nthread 1\ncollect\ndone",
     )?;
-    same(trace.threads(), 2)?;
-    same(trace.globals(), 3)?;
-    same(trace.orders(), 1)?;
-    same(first_order(&trace), Some((1, 7)))?;
-    same((trace.count(0), trace.count(1)), (4, 1))?;
-    let (dst, refs, nums) = (15, 62, 0);
-    let (obj, j, v) = (1, 2, u64::MAX);
-    let put = Op::Put { obj, j, v };
-    let mut first = trace.cursor(0);
-    for op in [Op::New { dst, refs, nums }, put, put, put] {
-        same(first.next(), Some(op))?;
-    }
-    same(first.next(), None)?;
-    let mut second = trace.cursor(1);
-    same(second.next(), Some(Op::Collect))?;
-    same(second.next(), None)?;
+    same_parts(&trace)?;
     let wanted = b"melt 1\nthreads 2\nglobals 3\norder 1 7\nthread 0\nnew 15 62 0\nrepeat 3\n\
         put 1 2 18446744073709551615\nend\ndone\nthread 1\ncollect\ndone\n";
-    same(print(rt.alloc(), &trace)?.as_slice(), wanted.as_slice())?;
-    Ok(())
+    same_text(rt.alloc(), &trace, wanted)
 }
 
-/// As which operations the line is read: the first, and one behind it.
-fn operations_of(alloc: Global, line: &str) -> Result<(Option<Op>, Option<Op>), Fail> {
-    let mut text = Vec::from_slice(alloc, b"melt 1\nthreads 1\nglobals 64\nthread 0\n")?;
-    text.extend_from_slice(line.as_bytes())?;
-    text.extend_from_slice(b"\ndone\n")?;
+/// These lines, between others.
+fn text_of(alloc: Global, before: &[u8], lines: &str, behind: &[u8]) -> Result<Vec<u8>, Fail> {
+    let mut text = Vec::from_slice(alloc, before)?;
+    text.extend_from_slice(lines.as_bytes())?;
+    text.extend_from_slice(behind)?;
+    Ok(text)
+}
+
+/// Fails where the line is read as another operation, or as more than one.
+fn same_operation(alloc: Global, line: &str, op: Op) -> Result<(), Fail> {
+    let before = b"melt 1\nthreads 1\nglobals 64\nthread 0\n".as_slice();
+    let text = text_of(alloc, before, line, b"\ndone\n")?;
     let trace = parse(alloc, &text)?;
     same(trace.threads(), 1)?;
     let mut cursor = trace.cursor(0);
     let first = cursor.next();
-    Ok((first, cursor.next()))
+    same((line, first, cursor.next()), (line, Some(op), None))
 }
 
 #[test]
@@ -92,9 +94,18 @@ fn canonical_lines_and_others(rt: HostRuntime) -> Result<(), Fail> {
     ];
     for (canonical, other, op) in lines {
         for line in [canonical, other] {
-            let got = operations_of(rt.alloc(), line)?;
-            same((line, got), (line, (Some(op), None)))?;
+            same_operation(rt.alloc(), line, op)?;
         }
+    }
+    Ok(())
+}
+
+/// Fails where another line and reason are told of some lines than stand beside them. All lines stand behind the same bytes.
+fn same_refusals(alloc: Global, before: &[u8], texts: &[(&str, (u32, u32))]) -> Result<(), Fail> {
+    for (lines, told) in texts {
+        let text = text_of(alloc, before, lines, b"")?;
+        let got = refusal(alloc, &text);
+        same((*lines, got), (*lines, Some(*told)))?;
     }
     Ok(())
 }
@@ -111,26 +122,17 @@ fn bad_openings(rt: HostRuntime) -> Result<(), Fail> {
         ("melt 1\nthreads 1\nglobals 65\n", (3, 5)),
         ("melt 1\nthreads 1\nglobals 2", (4, 14)),
     ];
-    for (text, told) in texts {
-        let got = refusal(rt.alloc(), text.as_bytes());
-        same((text, got), (text, Some(told)))?;
-    }
-    Ok(())
+    same_refusals(rt.alloc(), b"", &texts)
 }
 
 #[test]
 fn too_many_bytes(rt: HostRuntime) -> Result<(), Fail> {
     let text = vec![in rt.alloc(); b'\n'; 16_777_217]?;
-    same(refusal(rt.alloc(), &text), Some((0, 1)))?;
-    Ok(())
+    same(refusal(rt.alloc(), &text), Some((0, 1)))
 }
 
-/// The line and the reason that are told of these lines behind the first three.
-fn refusal_behind(alloc: Global, lines: &str) -> Result<Option<(u32, u32)>, Fail> {
-    let mut text = Vec::from_slice(alloc, b"melt 1\nthreads 1\nglobals 2\n")?;
-    text.extend_from_slice(lines.as_bytes())?;
-    Ok(refusal(alloc, &text))
-}
+/// The lines that each trace begins with.
+const OPENING: &[u8] = b"melt 1\nthreads 1\nglobals 2\n";
 
 #[test]
 fn bad_lines(rt: HostRuntime) -> Result<(), Fail> {
@@ -152,11 +154,7 @@ fn bad_lines(rt: HostRuntime) -> Result<(), Fail> {
         ("order 1 1\n", (4, 10)),
         ("thread 0\ndrop 0\n", (6, 14)),
     ];
-    for (lines, told) in texts {
-        let got = refusal_behind(rt.alloc(), lines)?;
-        same((lines, got), (lines, Some(told)))?;
-    }
-    Ok(())
+    same_refusals(rt.alloc(), OPENING, &texts)
 }
 
 #[test]
@@ -176,11 +174,7 @@ fn bad_blocks(rt: HostRuntime) -> Result<(), Fail> {
             (10, 13),
         ),
     ];
-    for (lines, told) in texts {
-        let got = refusal_behind(rt.alloc(), lines)?;
-        same((lines, got), (lines, Some(told)))?;
-    }
-    Ok(())
+    same_refusals(rt.alloc(), OPENING, &texts)
 }
 
 #[test]
@@ -193,9 +187,5 @@ fn the_first_of_two_faults(rt: HostRuntime) -> Result<(), Fail> {
         ("thread 0\ndrop 16\nthread 1\n", (5, 9)),
         ("thread 0\n#\x1f\ndrop 16\n", (5, 2)),
     ];
-    for (lines, told) in texts {
-        let got = refusal_behind(rt.alloc(), lines)?;
-        same((lines, got), (lines, Some(told)))?;
-    }
-    Ok(())
+    same_refusals(rt.alloc(), OPENING, &texts)
 }
