@@ -33,6 +33,14 @@ def test_help(folder):
     assert pathlib.Path("told").read_text() == ""
 
 
+def test_no_standard_error(folder):
+    """Where standard error is closed, nothing is told, by standard output neither."""
+    for words, status in ((["--force", program("small.py", SMALL)], 0), (["nowhere.py"], 1)):
+        ran = subprocess.run(["sh", "-c", '"$@" 2>&-', "sh", RECORD, *words], stdout=subprocess.PIPE, text=True)
+        assert (ran.returncode, ran.stdout) == (status, ""), ran
+    replay("small")
+
+
 def test_bad_words(folder):
     """Bad words are told with status 1, and nothing is run."""
     small = program("small.py", SMALL)

@@ -52,7 +52,7 @@ def loaded(path):
 
 def told_by(function, *arguments):
     """How a part of a tool ends it: the status, and what is told."""
-    from replaying.words import Told
+    from common.words import Told
     try:
         function(*arguments)
     except Told as told:

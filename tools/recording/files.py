@@ -1,53 +1,16 @@
-"""The three files of a recording. Each is written beside its place, and gets its name once it is whole."""
-import os
-
+"""The three files of a recording: their names, and what stands in NAME.kinds."""
 from recording.trace import RECORDER
 
 ENDINGS = ".trace", ".kinds", ".expect"
 
 
-class Files:
-    """The files NAME.trace, NAME.kinds and NAME.expect. Those that are written are made at once, so that a folder that takes none is
-    found out before a program runs."""
+def names_of(name):
+    return [name + ending for ending in ENDINGS]
 
-    def __init__(self, name, replaces):
-        self.names = [os.path.abspath(name) + ending for ending in ENDINGS]
-        self.replaces = replaces
-        self.beside = []
-        self.forbid_replacing()
-        try:
-            for path in self.names:
-                beside = f"{path}.{os.getpid()}.part"
-                os.close(os.open(beside, os.O_CREAT | os.O_EXCL | os.O_WRONLY, 0o666))
-                self.beside.append(beside)
-        except OSError:
-            self.remove()
-            raise
 
-    def forbid_replacing(self):
-        for path in self.names:
-            if os.path.lexists(path) and not self.replaces:
-                raise FileExistsError(17, "there is such a file already, which --force replaces", path)
-
-    def write(self, *texts):
-        """Writes each file, given as pieces of text, and gives them their names."""
-        try:
-            for beside, pieces in zip(self.beside, texts):
-                with open(beside, "w", encoding="utf-8", errors="backslashreplace") as file:
-                    file.writelines(pieces)
-            self.forbid_replacing()
-            for beside, path in zip(self.beside, self.names):
-                os.replace(beside, path)
-        finally:
-            self.remove()
-
-    def remove(self):
-        """Takes away what has no name yet."""
-        for beside in self.beside:
-            try:
-                os.unlink(beside)
-            except OSError:
-                pass
+def encoded(pieces):
+    """A text as bytes, piece by piece."""
+    return (piece.encode("utf-8", "backslashreplace") for piece in pieces)
 
 
 def plain(text):

@@ -7,6 +7,7 @@ import sys
 import traceback
 import types
 
+from common.words import flush
 from recording.rewriting import Finder, compiled, forget
 
 ENDED = "the program ended"
@@ -54,7 +55,7 @@ def prepare(program, words, named, recorder):
     folder = os.path.dirname(os.path.abspath(program))
     sys.argv = [program, *words]
     sys.path[0] = folder
-    forget([*named, "recording"])
+    forget([*named, "recording", "common"])
     sys.meta_path.insert(0, Finder(folder, named, recorder.begin_module))
 
 
@@ -105,14 +106,3 @@ def tell_error(error, recorder, outcome):
         outcome.status = 1
         shown = error.__traceback__.tb_next     # without the frame of this module
         traceback.print_exception(type(error), error, shown)
-
-
-def flush():
-    """Writes what is still to be written. Where nobody reads it any more, it goes nowhere, and nothing is said of that."""
-    for stream, descriptor in ((sys.stdout, 1), (sys.stderr, 2)):
-        try:
-            stream.flush()
-        except OSError:
-            os.dup2(os.open(os.devnull, os.O_WRONLY), descriptor)
-        except (ValueError, AttributeError):
-            pass               # the program has closed it, or put something else there

@@ -5,9 +5,9 @@ words behind the second one mean nothing, and its object may be one that never l
 """
 from typing import NamedTuple, Optional
 
+from common.words import REFUSED, Told
 from replaying.leaks import Part
 from replaying.stale import BadRecord, bodies
-from replaying.words import REFUSED, Told
 
 HEAD = "kinds", "program", "window", "first", "last", "operations"
 OBJECT, CELL = 10, 7           # fields of a line

@@ -13,7 +13,7 @@ import subprocess
 import tempfile
 from typing import NamedTuple, Optional
 
-from replaying.words import FAILED, REFUSED, WORDS, Told
+from common.words import FAILED, REFUSED, WORDS, Told
 
 TOP = pathlib.Path(__file__).resolve().parents[2]
 # In a clone, and where tools/install has put it.

@@ -4,8 +4,9 @@ The plain need is the smallest heap in which a trace ends done while nothing can
 gets smaller, but not steadily, so no bisection finds where it becomes much: the heap is halved until a run does not end done, and
 around the bend, where it becomes much, sixteenths are tried on both sides.
 """
+from common.words import FAILED, Told
 from replaying.melt import PLAIN, failure
-from replaying.words import FAILED, LEAST_HEAP, MOST_HEAP, Told
+from replaying.words import LEAST_HEAP, MOST_HEAP
 
 
 def plain_need(melt, trace):

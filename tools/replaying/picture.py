@@ -2,7 +2,7 @@
 import shutil
 import subprocess
 
-from replaying.words import FAILED, Told
+from common.words import FAILED, Told
 
 SORTS = (("ended done", "lw 2 pt 7 ps 0.6 lc rgb '#0072b2'", "linespoints"), ("did not end done", "pt 2 lc rgb '#d55e00'", "points"))
 

@@ -7,9 +7,9 @@ writes them for objects that stay, too.
 import re
 from typing import NamedTuple, Optional
 
+from common.words import REFUSED, Told
 from replaying.melt import Lines
 from replaying.stale import BadRecord, bodies, words_of
-from replaying.words import REFUSED, Told
 
 HEADS = "heap", "collections", "left", "came back", "% of uses", "in use", "held", "on disk", "time", "end"
 CSV_HEADS = "heap", "collections", "left", "came_back", "percent", "in_use", "held", "on_disk", "seconds", "end"
