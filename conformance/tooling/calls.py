@@ -10,7 +10,7 @@ from modelling.program import answer
 TOP = pathlib.Path(__file__).resolve().parents[2]
 RECORD = TOP / "tools/record"
 REAL = TOP / "examples/real"
-BUILT = pathlib.Path(os.environ.get("MELT_PROGRAM") or TOP / "crates/melt_top/out/melt_top")
+BUILT = pathlib.Path(os.environ.get("MELT_PROGRAM") or TOP / "crates/melt_top/out/melt_top").absolute()
 PROGRAM = BUILT if os.access(BUILT, os.X_OK) else None
 ENDINGS = ".trace", ".kinds", ".expect"
 SECONDS = 120
