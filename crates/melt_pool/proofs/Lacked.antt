@@ -22,7 +22,7 @@ use Rattle.melt_core.specs.Views.{View, value, values_of}
 use Rattle.melt_rule.specs.Shown.{base_at}
 use Rattle.melt_rule.specs.declared.began.Began.{Began}
 use Rattle.melt_safepoint.specs.Collections.{AllMarked, MadeSoFar, NoneForwarded}
-use Rattle.melt_safepoint.specs.Endings.{HaveCuts}
+use Rattle.melt_safepoint.specs.Endings.{HaveMoments}
 use Rattle.melt_safepoint.specs.Needs.{NeedsObject, NeedsWords}
 use Rattle.melt_safepoint.specs.Rows.{AwaitsCall, CollectorStands, LacksWords, Row, StandsBut}
 use Rattle.melt_safepoint.specs.Shown.{Shown, Underlies}
@@ -70,12 +70,12 @@ nothing_stands {unpaid} {told} {script} {config} {shown} {old} {new} stands done
   every = done.every ∙ stands.every;
   told_is = done.told_same ∙ stands.told_is;
   collector = subst (CollectorStands config shown) (sym done.collector) stands.collector;
-  cuts = λ tells.
-      subst (λ (c : Collector). HaveCuts script new.view.log new.states config c.journal.items) (sym done.collector)
-      (subst (λ (xs : List ThreadState). HaveCuts script new.view.log xs config old.collector.journal.items)
+  moments = λ tells.
+      subst (λ (c : Collector). HaveMoments script new.view.log new.states config c.journal.items) (sym done.collector)
+      (subst (λ (xs : List ThreadState). HaveMoments script new.view.log xs config old.collector.journal.items)
       (sym done.states)
-      (subst (λ (h : List Entry). HaveCuts script h old.states config old.collector.journal.items)
-      (sym done.renewed.history) (stands.cuts tells)));
+      (subst (λ (h : List Entry). HaveMoments script h old.states config old.collector.journal.items)
+      (sym done.renewed.history) (stands.moments tells)));
   made = λ tells. subst (λ (c : Collector). MadeSoFar config new.view c.journal.items) (sym done.collector)
       (done.made tells _ (stands.made tells));
   counts = counts_of script config new old.states old.collector done.states done.collector stands.counts;

@@ -148,6 +148,7 @@ new_table told {script} {config} {entries} image {heap} {states} ranges few new 
       threads = ap length held ∙ length-replicate n no_registers;
       globals = ap length new.globals_hold_nothing ∙ length-replicate script.globals 0;
       words = new.space.size;
+      forward_words = forwards;
       forwards = omega (arith, forwards, ranges.forward_most);
       some_forward = omega (arith, forwards, ranges.forward_least);
       each = λ t s at. new_thread told script n t heap held

@@ -18,7 +18,7 @@ use Rattle.melt_core.specs.declared.answer.Refusal.TheVariants.{Pause}
 use Rattle.melt_epoch.specs.Ends.{view_of}
 use Rattle.melt_epoch.specs.declared.mutator.Mutator.{Mutator}
 use Rattle.melt_safepoint.specs.Modes.{IsEnded, MayGo, jobs, mode_for, owes, owes_silent}
-use Rattle.melt_safepoint.specs.Run.{is_collect}
+use Rattle.melt_safepoint.specs.Asked.{is_collect}
 use Rattle.melt_safepoint.specs.Threads.{DueBy, TakesReply, jobs_of, left, with_first}
 use Rattle.melt_safepoint.specs.declared.thread.Mode.{Mode}
 use Rattle.melt_safepoint.specs.declared.thread.Mode.TheVariants.{Running, Due, Silent, Collecting, Asked}

@@ -10,7 +10,7 @@ use Rattle.melt_core.specs.declared.answer.Refusal.{Refusal}
 use Rattle.melt_core.specs.declared.answer.Refusal.TheVariants as refusal
 use Rattle.melt_core.specs.declared.answer.Refusal.TheVariants.{Pause}
 use Rattle.melt_safepoint.specs.Modes.{FitsMode, MayGo, mode_for, owes}
-use Rattle.melt_safepoint.specs.Run.{silent_in}
+use Rattle.melt_safepoint.specs.Asked.{silent_in}
 use Rattle.melt_safepoint.specs.Threads.{DueBy, TakesReply}
 use Rattle.melt_safepoint.specs.declared.thread.Mode.{Mode}
 use Rattle.melt_safepoint.specs.declared.thread.Mode.TheVariants.{Running, Due, Silent, Collecting, Asked}

@@ -15,7 +15,7 @@ use Rattle.melt_rule.specs.declared.began.Began.{Began}
 use Rattle.melt_epoch.specs.declared.mutator.Mutator.{Mutator}
 use Rattle.melt_safepoint.specs.Collections.{MadeSoFar}
 use Rattle.melt_safepoint.specs.Counts.{CountsCollections}
-use Rattle.melt_safepoint.specs.Endings.{HaveCuts}
+use Rattle.melt_safepoint.specs.Endings.{HaveMoments}
 use Rattle.melt_safepoint.specs.Epochs.{MayRunEpoch, RestsWell, RunsEpoch, SomeMayRun, to_do}
 use Rattle.melt_safepoint.specs.Rows.{CollectorStands, Row, RunStands, StandsBut}
 use Rattle.melt_safepoint.specs.Shown.{Shown, Underlies}
@@ -147,13 +147,13 @@ module _ {R : Type 0} (image : R → Option (List ℕ)) (faults : R → ℕ) (wo
           every = leaves.every ∙ stands.every;
           told_is = leaves.told;
           collector = subst (CollectorStands config shown) (sym leaves.collector) stands.collector;
-          cuts = λ tells.
-              subst (λ (c : Collector). HaveCuts script new.view.log new.states config c.journal.items)
+          moments = λ tells.
+              subst (λ (c : Collector). HaveMoments script new.view.log new.states config c.journal.items)
               (sym leaves.collector)
-              (threads.passed_cuts_shown old.told script config stands.disk old.view old.states image faults words
+              (threads.passed_moments_shown old.told script config stands.disk old.view old.states image faults words
               registers ms b is_told history table armed globals finish old.every first ns heap h passed new.states
               registers_after ms_after disarmed shows.0 new.view shows.3 within stands.every
-              old.collector.journal.items (stands.cuts tells));
+              old.collector.journal.items (stands.moments tells));
           made = λ tells.
               subst (λ (c : Collector). MadeSoFar config new.view c.journal.items) (sym leaves.collector)
               (leaves.made tells stands.disk

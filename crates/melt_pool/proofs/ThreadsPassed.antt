@@ -22,11 +22,12 @@ use Rattle.melt_epoch.specs.Ends.{SomeCause, unseated, view_of}
 use Rattle.melt_epoch.specs.declared.mutator.Mutator.{Mutator}
 use Rattle.melt_safepoint.specs.Counts.{CountsCollections}
 use Rattle.melt_safepoint.specs.Cuts.{IsDue}
-use Rattle.melt_safepoint.specs.Endings.{EndsSo, HaveCuts}
+use Rattle.melt_safepoint.specs.Endings.{EndsSo, HaveMoments}
 use Rattle.melt_safepoint.specs.Epochs.{RestsWell, to_do}
 use Rattle.melt_safepoint.specs.Losses.{CountsLosses, losses, open_faults}
-use Rattle.melt_safepoint.specs.Modes.{MayGo, Waits, lost, owes_silent}
-use Rattle.melt_safepoint.specs.Run.{LoadsNext, total}
+use Rattle.melt_safepoint.specs.Modes.{HadNoRoom, MayGo, Waits, lost, owes_silent}
+use Rattle.melt_safepoint.specs.Asked.{total}
+use Rattle.melt_safepoint.specs.Run.{LoadsNext}
 use Rattle.melt_safepoint.specs.Tables.{TableStands, ThreadStands}
 use Rattle.melt_safepoint.specs.Threads.{Later, jobs_of, most_forwards, replies_of, to_reply}
 use Rattle.melt_safepoint.specs.declared.thread.Mode.{Mode}
@@ -34,7 +35,8 @@ use Rattle.melt_safepoint.specs.declared.thread.Mode.TheVariants.{Running, Due, 
 use Rattle.melt_safepoint.specs.declared.thread.Mode.TheVariants.{Ended}
 use Rattle.melt_safepoint.specs.declared.thread.ThreadState.{ThreadState}
 use Rattle.melt_safepoint.proofs.Counting.{counts_on, counts_paid}
-use Rattle.melt_safepoint.proofs.Cuts.{HaveCuts_later, gone_cases, replies_here}
+use Rattle.melt_safepoint.proofs.Cuts.{gone_cases, replies_here}
+use Rattle.melt_safepoint.proofs.InOrder.{HaveMoments_later, NoneForRoom}
 use Rattle.melt_safepoint.proofs.Modes.{ends_later}
 use Rattle.melt_pool.specs.Epochs.{AllRest, GoesFrom, HasPassed, Passes, Rests}
 use Rattle.melt_pool.specs.Machines.{AreArmed, AreDisarmed}
@@ -240,12 +242,41 @@ module _ {R : Type 0} (told : Bool) (script : Script) (config : Config) (disk : 
       went.went_less_by every script b.history h states after all_went t s.0 x.0 s.1 x.1
       ((passed_at t s.0 x.0 s.1 x.1).less here)
 
-  -- the moments of collections stay so
-  pub passed_cuts : (journal : List Journal) → HaveCuts script v.log states config journal
-      → HaveCuts script h after config journal
-  passed_cuts journal have =
-      subst (λ (g : List Entry). HaveCuts script g after config journal) goes_on.1
-      (HaveCuts_later script v.log goes_on.0 config journal passed_later have)
+  -- no thread ends for want of room in an epoch
+  passed_room : NoneForRoom states after
+  passed_room t x is none =
+      let s : (s : ThreadState) × (slice_get states t ≡ Some s) =
+      went.sooner_at every script b.history h states after all_went t x is in
+      let it : PassedAt faults finish every first b script h passed.seats ns t s.0 x = passed_at t s.0 x s.1 is in
+      elim (gone_cases s.0.mode) [
+        | inl gone ↦ s.1 ∙ ap Some (sym (sym it.is ∙ it.passes.ended gone.0))
+        | inr goes ↦
+            let lost : ℕ = faults it.passes.rests.brings.worker.reader in
+            absurd (had_room b.told it.back.thread (length x.replies.items) lost x.mode
+            (subst (λ (y : ThreadState). EndsWell b.told finish script it.back.thread (length y.replies.items) lost
+            y.mode) it.is (it.passes.ends goes.0)) none)
+      ]
+    where
+      had_room : (tells : Bool) (u count lost : ℕ) (mode : Mode) → EndsWell tells finish script u count lost mode
+          → HadNoRoom mode → ⊥
+      had_room tells u count lost Running ends none = none
+      had_room tells u count lost Due ends none = none
+      had_room tells u count lost Silent ends none = none
+      had_room tells u count lost Collecting ends none = none
+      had_room tells u count lost Asked ends none = none
+      had_room tells u count lost Lacking ends none = none
+      had_room tells u count lost (Ended end.Done) ends none = none
+      had_room tells u count lost (Ended (end.OutOfHeap held need)) ends none = ends
+      had_room tells u count lost (Ended end.DiskFault) ends none = none
+      had_room tells u count lost (Ended (end.Damaged home at word)) ends none = none
+      had_room tells u count lost (Ended end.Halted) ends none = none
+
+  -- the moments of the run stay so
+  pub passed_moments : (journal : List Journal) → HaveMoments script v.log states config journal
+      → HaveMoments script h after config journal
+  passed_moments journal have =
+      subst (λ (g : List Entry). HaveMoments script g after config journal) goes_on.1
+      (HaveMoments_later script v.log goes_on.0 config journal passed_later passed_room have)
 
   -- the collections stay counted, and those that are unpaid are paid where the call of one was made first
   pub passed_counts : every ≡ config.every → (made : ℕ) → CountsCollections script config 0 states made
@@ -450,6 +481,7 @@ module _ {R : Type 0} (told : Bool) (script : Script) (config : Config) (disk : 
       threads = shows.threads ∙ table.threads;
       globals = shows.globals ∙ table.globals;
       words = shows.words ∙ table.words;
+      forward_words = shows.forwards ∙ table.forward_words;
       forwards = subst (λ (n : ℕ). n ≤ most_forwards) (sym shows.forwards) table.forwards;
       some_forward = subst (λ (n : ℕ). 1 ≤ n) (sym shows.forwards) table.some_forward;
       each = λ t x is.
@@ -472,7 +504,7 @@ module _ {R : Type 0} (told : Bool) (script : Script) (config : Config) (disk : 
     }
 
     -- and so the moments of collections stay in what the run shows
-    pub passed_cuts_shown : (journal : List Journal) → HaveCuts script v.log states config journal
-        → HaveCuts script w.log after config journal
-    passed_cuts_shown journal have =
-        subst (λ (g : List Entry). HaveCuts script g after config journal) (sym shows.log) (passed_cuts journal have)
+    pub passed_moments_shown : (journal : List Journal) → HaveMoments script v.log states config journal
+        → HaveMoments script w.log after config journal
+    passed_moments_shown journal have =
+        subst (λ (g : List Entry). HaveMoments script g after config journal) (sym shows.log) (passed_moments journal have)

@@ -11,7 +11,7 @@ use Rattle.std.specs.Option.{option_map_or}
 use Rattle.melt_model.specs.Thread.{own, own_from}
 use Rattle.melt_model.specs.declared.history.Entry.{Entry}
 use Rattle.melt_safepoint.proofs.Counting.{total_same}
-use Rattle.melt_safepoint.specs.Run.{total}
+use Rattle.melt_safepoint.specs.Asked.{total}
 
 -- the sum of what the first threads have, with the first one before the others
 pub total_front : (f : ℕ → ℕ) (n : ℕ) → total f (suc n) ≡ f 0 + total (λ t. f (suc t)) n

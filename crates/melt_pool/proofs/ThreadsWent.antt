@@ -13,7 +13,7 @@ use Rattle.melt_trace.specs.Script.{Script, operations}
 use Rattle.melt_safepoint.specs.Counts.{answers, over, overs}
 use Rattle.melt_safepoint.specs.Epochs.{to_do}
 use Rattle.melt_safepoint.specs.Modes.{IsEnded, MayGo, jobs, owes}
-use Rattle.melt_safepoint.specs.Run.{collections_of, collects, collects_of, is_collect, silent_in, total}
+use Rattle.melt_safepoint.specs.Asked.{collections_of, collects, collects_of, is_collect, silent_in, total}
 use Rattle.melt_safepoint.specs.Threads.{AllWait, Later, jobs_of, left, owing, replies_of, to_reply}
 use Rattle.melt_safepoint.specs.declared.thread.Mode.{Mode}
 use Rattle.melt_safepoint.specs.declared.thread.Mode.TheVariants.{Running, Due, Silent, Collecting, Asked, Lacking}

@@ -20,7 +20,8 @@ use Rattle.melt_epoch.specs.Ends.{view_of}
 use Rattle.melt_epoch.specs.Mutators.{IsSeated, with_none}
 use Rattle.melt_epoch.specs.declared.mutator.Mutator.{Mutator}
 use Rattle.melt_safepoint.specs.Modes.{FitsMode, ForCollection, IsEnded, Waits, mode_for, owes, owes_silent}
-use Rattle.melt_safepoint.specs.Run.{LoadsNext, WasRead, is_collect, silent_in}
+use Rattle.melt_safepoint.specs.Asked.{is_collect, silent_in}
+use Rattle.melt_safepoint.specs.Run.{LoadsNext, WasRead}
 use Rattle.melt_safepoint.specs.Threads.{jobs_of, left, TakesReply}
 use Rattle.melt_safepoint.specs.declared.thread.Mode.{Mode}
 use Rattle.melt_safepoint.specs.declared.thread.Mode.TheVariants.{Running, Due, Asked, Lacking, Ended}

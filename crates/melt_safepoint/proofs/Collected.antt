@@ -1,7 +1,6 @@
 -- A journal grows by collections that were planned or forced, and a run stands behind each of them.
 use Rattle.std.proofs.Common.{◌≡◌, ℕ, ◌+◌, ◌<◌, ◌≤◌, suc, true, false, List, [], ◌∷◌, ◌++◌, length}
 use Rattle.std.proofs.Common.{refl, sym, ◌∙◌, ap, subst, arith, length-append, inl, inr}
-use Rattle.std.proofs.lemmas.List.Elements.{All-push}
 use Rattle.std.specs.Prelude.{Bool, Option, None, Some}
 use Rattle.melt_model.specs.declared.config.Config.{Config}
 use Rattle.melt_model.specs.declared.history.Entry.{Entry}
@@ -25,8 +24,9 @@ use Rattle.melt_safepoint.specs.Journals.{next_of, before, end_of, IsTight, MayM
 use Rattle.melt_safepoint.specs.Counts.{CountsCollections}
 use Rattle.melt_safepoint.specs.Made.{MakesWithin}
 use Rattle.melt_safepoint.specs.Shown.{Shown}
-use Rattle.melt_safepoint.specs.Endings.{HasCut, HaveCuts}
+use Rattle.melt_safepoint.specs.Endings.{HaveMoments}
 use Rattle.melt_safepoint.proofs.Counting.{Spare, counts_made_more, counts_spare}
+use Rattle.melt_safepoint.proofs.InOrder.{moments_collected}
 use Rattle.melt_safepoint.proofs.Journals.{before_end, MayBe, journal_push, may_be, may_move, phase_cases, plan_for}
 use Rattle.melt_safepoint.proofs.Journals.{MayOwe}
 use Rattle.melt_safepoint.specs.Collections.{CollectsCore, CollectedOver, FullOver, Gathers, IsFullCore, IsRefusedCore}
@@ -42,7 +42,7 @@ use Rattle.melt_safepoint.specs.declared.collector.CollectRefusal.{CollectRefusa
 use Rattle.melt_safepoint.specs.declared.collector.CollectRefusal.TheVariants as refused
 use Rattle.melt_safepoint.specs.declared.ending.Ended.{Ended}
 use Rattle.melt_safepoint.specs.declared.ending.Left.{Left}
-use Rattle.melt_safepoint.proofs.Moments.{cut_now}
+use Rattle.melt_safepoint.proofs.Moments.{counts_now, moment_now}
 use Rattle.melt_safepoint.proofs.Tables.{Table_renewed}
 use Rattle.melt_safepoint.proofs.WordsMade.{made_collected, run_within}
 
@@ -108,13 +108,14 @@ journal_count {old} collects =
     ap length collects.journal ∙ length-append old.journal.items (collects.entry ∷ [])
 
 -- each collection has its moment, and now is that of one more
-cuts_more : {script : Script} {config : Config} {disk : OnDisk} {v : View} (w : View) {states : List ThreadState}
-    (js : List Journal) {entry : Journal} → TableStands true script config disk v states → Gathers v entry
-    → w.log ≡ v.log → HaveCuts script v.log states config js → HaveCuts script w.log states config (js ++ entry ∷ [])
-cuts_more {script} {config} {disk} {v} w {states} js {entry} table gathers history cuts =
-    subst (λ (h : List Entry). HaveCuts script h states config (js ++ entry ∷ [])) (sym history)
-    (All-push (HasCut script v.log states config) js entry cuts
-    (cut_now script config disk v states entry table gathers))
+moments_more : {script : Script} {config : Config} {disk : OnDisk} {v : View} (w : View) {states : List ThreadState}
+    (js : List Journal) {entry : Journal} {unpaid : ℕ} → TableStands true script config disk v states
+    → Gathers v entry → CountsCollections script config unpaid states (length js) → w.log ≡ v.log
+    → HaveMoments script v.log states config js → HaveMoments script w.log states config (js ++ entry ∷ [])
+moments_more {script} {config} {disk} {v} w {states} js {entry} {unpaid} table gathers counts history have =
+    subst (λ (h : List Entry). HaveMoments script h states config (js ++ entry ∷ [])) (sym history)
+    (moments_collected js entry have (moment_now script config disk v states js entry table gathers)
+    (counts_now script config unpaid v.log states (length js) table.count counts))
 
 -- what a collection left, over the disk under a run
 abbrev pub Over : ℕ → Bool → Script → Config → Bool → (shown later : Shown) → (old new : Row) → Type 0
@@ -138,19 +139,19 @@ collected_table {unpaid} {told} {script} {config} {new} over =
     subst (TableStands told script config over.2.disk new.view) (sym over.1.states)
     (Table_renewed over.0.table over.2.renewed)
 
--- and so do the moments of the collections, told as the view before it tells
-collected_cuts : {unpaid : ℕ} (told : Bool) {script : Script} {config : Config} {force : Bool} {shown later : Shown}
+-- and so do the moments of the run, told as the view before it tells
+collected_moments : {unpaid : ℕ} (told : Bool) {script : Script} {config : Config} {force : Bool} {shown later : Shown}
     {old new : Row} → told ≡ true → Over unpaid told script config force shown later old new
-    → HaveCuts script new.view.log new.states config new.collector.journal.items
-collected_cuts {unpaid} true {script} {config} {old} {new} is over =
+    → HaveMoments script new.view.log new.states config new.collector.journal.items
+collected_moments {unpaid} true {script} {config} {old} {new} is over =
     let w : View = new.view in
     let entry : Journal = over.1.collects.entry in
-    let more : HaveCuts script w.log old.states config (old.collector.journal.items ++ entry ∷ []) =
-    cuts_more w old.collector.journal.items over.0.table (over.2.gathers refl) over.2.renewed.history
-    (over.0.cuts refl) in
-    subst (λ (xs : List ThreadState). HaveCuts script w.log xs config new.collector.journal.items) (sym over.1.states)
-    (subst (HaveCuts script w.log old.states config) (sym over.1.collects.journal) more)
-collected_cuts {unpaid} false {script} {config} {old} {new} is over =
+    let more : HaveMoments script w.log old.states config (old.collector.journal.items ++ entry ∷ []) =
+    moments_more w old.collector.journal.items over.0.table (over.2.gathers refl) over.0.counts over.2.renewed.history
+    (over.0.moments refl) in
+    subst (λ (xs : List ThreadState). HaveMoments script w.log xs config new.collector.journal.items) (sym over.1.states)
+    (subst (HaveMoments script w.log old.states config) (sym over.1.collects.journal) more)
+collected_moments {unpaid} false {script} {config} {old} {new} is over =
     absurd (let wrong : false ≡ true = is in cc)
 
 -- one entry more
@@ -214,7 +215,7 @@ stands_collected {unpaid} {told} {script} {config} {force} {shown} {later} {old}
       every = made.every ∙ stands.every;
       told_is = made.told ∙ stands.told_is;
       collector = collector_more force stands.collector made.collects stands.table.words tight;
-      cuts = λ is. collected_cuts told is over;
+      moments = λ is. collected_moments told is over;
       made = λ is.
           subst (MadeSoFar config new.view) (sym over.1.collects.journal)
           (made_collected config old.view new.view old.collector.journal.items over.1.collects.entry
@@ -320,9 +321,9 @@ stands_full {unpaid} {told} {script} {config} force {later} {run} {full} {ended}
       v = w;
       states = states;
       table = Table_renewed stands.table over.renewed;
-      cuts = λ tells. subst (λ (h : List Entry). HaveCuts script h states config ended.journal.items)
+      moments = λ tells. subst (λ (h : List Entry). HaveMoments script h states config ended.journal.items)
           (sym over.renewed.history)
-          (subst (HaveCuts script v.log states config) (sym halts.journal) (stands.cuts tells));
+          (subst (HaveMoments script v.log states config) (sym halts.journal) (stands.moments tells));
       journal = subst (IsJournalOf config) (sym halts.journal) stands.collector.journal;
       made = λ is_told. subst (λ (h : List Entry). MakesWithin config h ended.journal.items) (sym over.renewed.history)
           (subst (MakesWithin config v.log) (sym halts.journal) (run_within is_told stands));
@@ -346,7 +347,7 @@ stands_failed {unpaid} {told} {script} {config} later {run} stands is halts =
       v = v;
       states = states;
       table = stands.table;
-      cuts = λ tells. subst (HaveCuts script v.log states config) (sym halts.journal) (stands.cuts tells);
+      moments = λ tells. subst (HaveMoments script v.log states config) (sym halts.journal) (stands.moments tells);
       journal = subst (IsJournalOf config) (sym halts.journal) stands.collector.journal;
       made = λ is_told. subst (MakesWithin config v.log) (sym halts.journal) (run_within is_told stands);
       unpaid = unpaid;

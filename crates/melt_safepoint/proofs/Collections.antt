@@ -19,28 +19,29 @@ use Rattle.melt_safepoint.specs.declared.thread.Mode.TheVariants.{Running, Due, 
 use Rattle.melt_safepoint.specs.declared.thread.Mode.TheVariants.{Ended}
 use Rattle.melt_safepoint.specs.Passing.{CollectedFor}
 use Rattle.melt_safepoint.specs.Threads.{DueBy, GoesOn, TakesReply, jobs_of, left, with_first}
-use Rattle.melt_safepoint.specs.Modes.{ForCollection, IsEnded, IsPaused, collections_for, jobs, lost, owes, owes_silent}
-use Rattle.melt_safepoint.specs.Endings.{HaveCuts}
+use Rattle.melt_safepoint.specs.Modes.{ForCollection, HadNoRoom, IsEnded, IsPaused, collections_for, jobs, lost, owes, owes_silent}
+use Rattle.melt_safepoint.specs.Endings.{HaveMoments}
 use Rattle.melt_safepoint.specs.Losses.{losses}
 use Rattle.melt_safepoint.proofs.Losses.{losses_same, told_lost}
-use Rattle.melt_safepoint.proofs.Cuts.{HaveCuts_later}
+use Rattle.melt_safepoint.proofs.InOrder.{HaveMoments_later, none_set}
 use Rattle.melt_safepoint.proofs.Threads.{later_set}
 
 -- the moments of the collections stay those of a run in which a thread got a reply
-pub cuts_reply : {script : Script} {config : Config} (log : List Entry) (states : List ThreadState) (t : ℕ)
+pub moments_reply : {script : Script} {config : Config} (log : List Entry) (states : List ThreadState) (t : ℕ)
     {s : ThreadState} (after : ThreadState) (extra : List Reply) (journal : List Journal) → slice_get states t ≡ Some s
-    → (IsEnded s.mode → ⊥) → after.replies.items ≡ s.replies.items ++ extra → HaveCuts script log states config journal
-    → HaveCuts script log (set states t after) config journal
-cuts_reply {script} {config} log states t {s} after extra journal at goes grown cuts =
-    subst (λ (h : List Entry). HaveCuts script h (set states t after) config journal) (append-nil log)
-    (HaveCuts_later script log [] config journal (later_set states t s after extra at goes grown) cuts)
+    → (IsEnded s.mode → ⊥) → after.replies.items ≡ s.replies.items ++ extra → (HadNoRoom after.mode → ⊥)
+    → HaveMoments script log states config journal → HaveMoments script log (set states t after) config journal
+moments_reply {script} {config} log states t {s} after extra journal at goes grown room moments =
+    subst (λ (h : List Entry). HaveMoments script h (set states t after) config journal) (append-nil log)
+    (HaveMoments_later script log [] config journal (later_set states t s after extra at goes grown)
+    (none_set states t s after at room) moments)
 
 -- it only has another mode
 pub goes_on_mode : (s after : ThreadState) → GoesOn s after → (mode : Mode) × (after ≡ record s { mode = mode })
-    × (owes mode ≡ 0) × (lost mode ≡ 0)
+    × (owes mode ≡ 0) × (lost mode ≡ 0) × (HadNoRoom mode → ⊥)
 goes_on_mode s after on = elim on [
-  | inl runs ↦ (Running, runs.1, refl, refl)
-  | inr ended ↦ (Ended end.Done, ended.1, refl, refl)
+  | inl runs ↦ (Running, runs.1, refl, refl, λ none. none)
+  | inr ended ↦ (Ended end.Done, ended.1, refl, refl, λ none. none)
 ]
 
 -- How a thread goes on behind the collection for which it waited.

@@ -76,7 +76,7 @@ same_keeps shown run some told script config stands = record {
   every = stands.every;
   told_is = stands.told_is;
   collector = stands.collector;
-  cuts = stands.cuts;
+  moments = stands.moments;
   made = stands.made;
   counts = counts_more script config run.states (length run.collector.journal.items)
       (overs_less run.states some.0 some.1.0 some.1.1 some.1.2) stands.counts;

@@ -20,7 +20,7 @@ use Rattle.melt_safepoint.specs.declared.thread.Mode.{Mode}
 use Rattle.melt_safepoint.specs.declared.thread.Mode.TheVariants.{Running, Due, Silent, Collecting, Asked, Lacking}
 use Rattle.melt_safepoint.specs.declared.thread.Mode.TheVariants.{Ended}
 use Rattle.melt_safepoint.specs.Counts.{CountsCollections, answers, over, overs}
-use Rattle.melt_safepoint.specs.Run.{collects, collects_of, is_collect, silent_in, total, collections, collections_of}
+use Rattle.melt_safepoint.specs.Asked.{collects, collects_of, is_collect, silent_in, total, collections, collections_of}
 use Rattle.melt_safepoint.specs.Threads.{DueBy, owing, replies_of, TakesReply}
 use Rattle.melt_safepoint.specs.Modes.{IsEnded, owes}
 use Rattle.melt_safepoint.proofs.Cuts.{replies_here}

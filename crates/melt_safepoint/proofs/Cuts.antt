@@ -1,10 +1,9 @@
 -- Moments of a run stay moments of it while it goes on.
-use Rattle.std.specs.Prelude.{Bool, if◌then◌else◌, Option, None, Some, slice_get}
-use Rattle.std.proofs.Common.{◌≡◌, ℕ, ◌<◌, ◌≤◌, zero, suc, true, false, List, [], ◌∷◌, ◌++◌, length, take, drop}
+use Rattle.std.specs.Prelude.{if◌then◌else◌, Option, None, Some, slice_get}
+use Rattle.std.proofs.Common.{◌≡◌, ℕ, ◌≤◌, zero, suc, true, false, List, [], ◌∷◌, ◌++◌, length, take, drop}
 use Rattle.std.proofs.Common.{refl, sym, ◌∙◌, ap, subst, arith, length-append, ◌⊎◌, inl, inr}
 use Rattle.std.proofs.lemmas.List.{take-append-le}
-use Rattle.std.proofs.lemmas.List.Elements.{All-weaker}
-use Rattle.std.proofs.lemmas.Option.{slice_get_cases, slice_get_within, same_Some}
+use Rattle.std.proofs.lemmas.Option.{slice_get_cases, same_Some}
 use Rattle.melt_model.specs.Alive.{Alive, Held, words_of, CostsSum}
 use Rattle.melt_model.specs.Thread.{registers_after, value_in, Transcript}
 use Rattle.melt_model.specs.declared.config.Config.{Config}
@@ -27,7 +26,7 @@ use Rattle.melt_safepoint.specs.Needs.{NeedsObject, NeedsWords}
 use Rattle.melt_safepoint.specs.Cuts.{Cut, IsCut, IsCollectedAt, LacksRoom}
 use Rattle.melt_safepoint.specs.Threads.{with_first, replies_of, Later}
 use Rattle.melt_safepoint.specs.Modes.{owes_silent, FitsMode, IsEnded}
-use Rattle.melt_safepoint.specs.Endings.{GoneIn, LacksNow, HasCut, HaveCuts}
+use Rattle.melt_safepoint.specs.Endings.{GoneIn, gone_in, has_gone, now}
 
 -- the replies of a thread of the run
 pub replies_here : (states : List ThreadState) (u : ℕ) (s : ThreadState) → slice_get states u ≡ Some s
@@ -54,7 +53,7 @@ same_replies states after cut u later gone ended = elim (slice_get_cases states 
 ]
 
 -- a moment is one of the longer run
-IsCut_later : {script : Script} {log : List Entry} (more : List Entry) {states after : List ThreadState}
+pub IsCut_later : {script : Script} {log : List Entry} (more : List Entry) {states after : List ThreadState}
     {config : Config} {cut : Cut} → Later states after → GoneIn states cut
     → IsCut script log (replies_of states) config cut → IsCut script (log ++ more) (replies_of after) config cut
 IsCut_later {script} {log} more {states} {after} {cut} later gone is = record {
@@ -76,16 +75,6 @@ IsCut_later {script} {log} more {states} {after} {cut} later gone is = record {
   over = is.over;
 }
 
--- the threads that had ended at the moment have ended later too
-GoneIn_later : (states after : List ThreadState) (cut : Cut) → Later states after → GoneIn states cut → GoneIn after cut
-GoneIn_later states after cut later gone = λ u s at is.
-    elim (slice_get_cases states u).1 [
-      | inl w ↦
-          let ended : IsEnded w.0.mode = gone u w.0 w.2 is in
-          subst (λ (x : ThreadState). IsEnded x.mode) (same_Some w.0 s (sym (later.ended u w.0 w.2 ended) ∙ at)) ended
-      | inr w ↦ absurd (let below : u < length after = slice_get_within after u s at in omega (arith, later.count, w.0))
-    ]
-
 -- the registers at the moment, by the history at the moment
 abbrev pub registers_by : Script → Cut → List Entry → ℕ → ℕ → Value
 registers_by script cut h u r = if cut.ended u then Nil else value_in
@@ -103,81 +92,39 @@ ReachesBy script cut words h = CostsSum (words_of h) (Alive h (registers_by scri
 abbrev pub NeedsBy : Script → Cut → ℕ → Op → ℕ → List Entry → Type 0
 NeedsBy script cut t o need h = NeedsWords h (registers_by script cut h) t o need
 
+-- the words of a collection stay what they were at its moment
+pub IsCollectedAt_later : {script : Script} {log : List Entry} (more : List Entry) {entry : Journal} {cut : Cut}
+    → cut.entries ≤ length log → IsCollectedAt script log entry cut → IsCollectedAt script (log ++ more) entry cut
+IsCollectedAt_later {script} {log} more {entry} {cut} within at =
+    let history : take cut.entries (log ++ more) ≡ take cut.entries log = take-append-le cut.entries log more within in
+    record {
+      holds = subst (HoldsBy script cut entry.held) (sym history) at.holds;
+      alive = at.alive;
+      reach = subst (ReachesBy script cut at.alive) (sym history) at.reach;
+      fits = at.fits;
+    }
+
 -- a thread that lacks room, and gets no further reply
-pub LacksNow_same : {script : Script} {log : List Entry} (more : List Entry) {states after : List ThreadState}
-    {config : Config} {t held_words need : ℕ} → Later states after → replies_of after t ≡ replies_of states t
-    → LacksNow script log states config t held_words need → LacksNow script (log ++ more) after config t held_words need
-LacksNow_same {script} {log} more {states} {after} {config} {t} {held_words} {need} later same lacks =
-    let x : LacksRoom script log (replies_of states) config t held_words need = lacks.0 in
-    let history : take x.cut.entries (log ++ more) ≡ take x.cut.entries log =
-    take-append-le x.cut.entries log more x.is_cut.is.within in
-    let next : LacksRoom script (log ++ more) (replies_of after) config t held_words need = record {
-      cut = x.cut;
+pub LacksRoom_later : {script : Script} {log : List Entry} (more : List Entry) {states after : List ThreadState}
+    {config : Config} {cut : Cut} {t held_words need : ℕ} → Later states after → GoneIn states cut
+    → replies_of after t ≡ replies_of states t → LacksRoom script log (replies_of states) config cut t held_words need
+    → LacksRoom script (log ++ more) (replies_of after) config cut t held_words need
+LacksRoom_later {script} {log} more {states} {after} {config} {cut} {t} {held_words} {need} later gone same x =
+    let history : take cut.entries (log ++ more) ≡ take cut.entries log =
+    take-append-le cut.entries log more x.is_cut.is.within in
+    record {
       is_cut = record {
-        is = IsCut_later more later lacks.1 x.is_cut.is;
+        is = IsCut_later more later gone x.is_cut.is;
         count = x.is_cut.count ∙ ap length (sym same);
         alive = x.is_cut.alive;
       };
       over = x.over;
       op = x.op;
       next = ap (λ (rs : List Reply). slice_get (operations script t) (length rs)) same ∙ x.next;
-      needed = subst (NeedsBy script x.cut t x.op need) (sym history) x.needed;
-      holds = subst (HoldsBy script x.cut held_words) (sym history) x.holds;
+      needed = subst (NeedsBy script cut t x.op need) (sym history) x.needed;
+      holds = subst (HoldsBy script cut held_words) (sym history) x.holds;
       above = x.above;
-    } in
-    (next, GoneIn_later states after x.cut later lacks.1)
-
--- a thread that ended for want of room
-pub LacksNow_later : {script : Script} {log : List Entry} (more : List Entry) {states after : List ThreadState}
-    {config : Config} {t held_words need : ℕ} {s : ThreadState} → Later states after → slice_get states t ≡ Some s
-    → IsEnded s.mode → LacksNow script log states config t held_words need
-    → LacksNow script (log ++ more) after config t held_words need
-LacksNow_later more {states} {after} {t} {s} later at ended lacks =
-    LacksNow_same more later (replies_here after t s (later.ended t s at ended) ∙ sym (replies_here states t s at))
-    lacks
-
--- the moment of a collection stays one
-pub HasCut_later : {script : Script} {log : List Entry} (more : List Entry) {states after : List ThreadState}
-    {config : Config} {entry : Journal} → Later states after → HasCut script log states config entry
-    → HasCut script (log ++ more) after config entry
-HasCut_later {script} {log} more {states} {after} {entry} later has =
-    let history : take has.cut.entries (log ++ more) ≡ take has.cut.entries log =
-    take-append-le has.cut.entries log more has.is_cut.within in
-    let at : IsCollectedAt script log entry has.cut = has.collected in
-    record {
-      cut = has.cut;
-      is_cut = IsCut_later more later has.gone has.is_cut;
-      collected = record {
-        holds = subst (HoldsBy script has.cut entry.held) (sym history) at.holds;
-        alive = at.alive;
-        reach = subst (ReachesBy script has.cut at.alive) (sym history) at.reach;
-        fits = at.fits;
-      };
-      gone = GoneIn_later states after has.cut later has.gone;
     }
-
--- and so of all collections
-pub HaveCuts_later : (script : Script) (log more : List Entry) {states after : List ThreadState} (config : Config)
-    (journal : List Journal) → Later states after → HaveCuts script log states config journal
-    → HaveCuts script (log ++ more) after config journal
-HaveCuts_later script log more {states} {after} config journal later have =
-    All-weaker (HasCut script log states config) (HasCut script (log ++ more) after config)
-    (λ entry has. HasCut_later more later has) journal have
-
--- whether a thread has ended
-abbrev pub has_gone : Mode → Bool
-has_gone (Ended e) = true
-has_gone mode = false
-
--- the threads of the run that have ended, and those that it lacks
-abbrev gone_in : List ThreadState → ℕ → Bool
-gone_in [] u = true
-gone_in (s ∷ states) zero = has_gone s.mode
-gone_in (s ∷ states) (suc u) = gone_in states u
-
--- the moment at which the run is
-abbrev pub now : List Entry → List ThreadState → Cut
-now log states = record { entries = length log; replies = λ u. length (replies_of states u); ended = gone_in states }
 
 -- a thread has ended or has not
 pub gone_cases : (mode : Mode)

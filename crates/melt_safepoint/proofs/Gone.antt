@@ -22,24 +22,25 @@ use Rattle.melt_safepoint.specs.Collections.{NoneForwarded}
 use Rattle.melt_safepoint.specs.Counts.{over}
 use Rattle.melt_safepoint.specs.Epochs.{to_do}
 use Rattle.melt_safepoint.specs.Makes.{EndsForRoom}
-use Rattle.melt_safepoint.specs.Threads.{jobs_of, left}
+use Rattle.melt_safepoint.specs.Threads.{jobs_of, left, replies_of}
 use Rattle.melt_safepoint.proofs.ToDo.{to_do_set}
 use Rattle.melt_safepoint.proofs.Threads.{get_set_same, get_set_other}
-use Rattle.melt_safepoint.specs.Endings.{HaveCuts, LacksNow}
+use Rattle.melt_safepoint.specs.Cuts.{LacksRoom}
+use Rattle.melt_safepoint.specs.Endings.{HaveMoments, now}
 use Rattle.melt_safepoint.specs.Losses.{losses}
 use Rattle.melt_safepoint.specs.Modes.{lost, owes, ForCollection, jobs}
 use Rattle.melt_safepoint.specs.Passing.{IsLacking, NoneOwn}
 use Rattle.melt_safepoint.proofs.Counting.{Adds, adds_mode, counts_paid}
 use Rattle.melt_safepoint.proofs.Losses.{losses_same}
 use Rattle.melt_safepoint.proofs.Lacking.{lacking_open}
-use Rattle.melt_safepoint.proofs.Modes.{cuts_mode}
+use Rattle.melt_safepoint.proofs.InOrder.{moments_gone}
 use Rattle.melt_safepoint.specs.Rows.{CollectorStands, LacksWords, NoRoom, RunStands, Row}
 use Rattle.melt_safepoint.specs.Rows.{StandsBut}
 use Rattle.melt_safepoint.specs.Collections.{MadeSoFar}
 use Rattle.melt_safepoint.specs.Tables.{TableStands}
 use Rattle.melt_safepoint.specs.declared.collector.Collector.{Collector}
 use Rattle.melt_safepoint.proofs.TableCounts.{counts_of}
-use Rattle.melt_safepoint.proofs.Moments.{lacks_room}
+use Rattle.melt_safepoint.proofs.Moments.{counts_now, lacks_room}
 use Rattle.melt_safepoint.proofs.TableModes.{Table_gone}
 use Rattle.melt_safepoint.proofs.WordsMade.{made_dropped}
 
@@ -65,7 +66,8 @@ gone_lacks : (told : Bool) {script : Script} {config : Config} {shown : Shown} {
     (held : ℕ) {need : ℕ} {s : ThreadState} → IsLacking old.states t s
     → LacksWords told script config shown forced old t need → (told ≡ true → NoRoom config old.view need)
     → ((disk : OnDisk) → Standing true disk old.view → CostsSum (words_of old.view.log) (Held (value old.view)) held)
-    → told ≡ true → LacksNow script old.view.log old.states config t held need
+    → told ≡ true
+    → LacksRoom script old.view.log (replies_of old.states) config (now old.view.log old.states) t held need
 gone_lacks true {old} {t} held {need} {s} was lacks no_room holds is =
     let disk : OnDisk = lacks.stands.disk in
     let all : CostsSum (words_of old.view.log) (Held (value old.view)) held =
@@ -95,21 +97,22 @@ gone_stands {told} {script} {config} {shown} {forced} {old} {new} {t} {held} {ne
       under = stands.under;
       none_free = stands.none_free;
       table = subst (TableStands told script config disk new.view) (sym e.states)
-          (Table_gone (end.OutOfHeap held need) stands.table e.was.at (lacking_open e.was) e.drops (stands.quiet t)
-          (gone_lacks told held e.was lacks no_room e.holds));
+          (Table_gone (end.OutOfHeap held need) stands.table e.was.at (lacking_open e.was) e.drops (stands.quiet t) tt);
       quiet = dropped_quiet old.view new.view t e.drops stands.quiet;
       words = e.words ∙ stands.words;
       every = e.every ∙ stands.every;
       told_is = e.told ∙ stands.told_is;
       collector = subst (CollectorStands config shown) (sym e.collector) stands.collector;
-      cuts = λ tells.
-          subst (λ (c : Collector). HaveCuts script new.view.log new.states config c.journal.items)
+      moments = λ tells.
+          subst (λ (c : Collector). HaveMoments script new.view.log new.states config c.journal.items)
           (sym e.collector)
-          (subst (λ (xs : List ThreadState). HaveCuts script new.view.log xs config old.collector.journal.items)
+          (subst (λ (xs : List ThreadState). HaveMoments script new.view.log xs config old.collector.journal.items)
           (sym e.states)
-          (subst (λ (h : List Entry). HaveCuts script h after config old.collector.journal.items) (sym history)
-          (cuts_mode config old.view.log states t mode old.collector.journal.items e.was.at (lacking_open e.was)
-          (stands.cuts tells))));
+          (subst (λ (h : List Entry). HaveMoments script h after config old.collector.journal.items) (sym history)
+          (moments_gone old.collector.journal.items t held need e.was.at (lacking_open e.was) (stands.moments tells)
+          (gone_lacks told held e.was lacks no_room e.holds tells)
+          (counts_now script config (suc forced) old.view.log states (length old.collector.journal.items)
+          stands.table.count stands.counts))));
       made = λ is.
           subst (λ (c : Collector). MadeSoFar config new.view c.journal.items) (sym e.collector)
           (made_dropped old.view new.view t e.drops (config.heap * length old.collector.journal.items)

@@ -1,3 +1,4 @@
+pub mod Asked
 pub mod Collected
 pub mod Collecting
 pub mod Collections
@@ -10,6 +11,7 @@ pub mod Finishing
 pub mod Gathering
 pub mod Gone
 pub mod Halting
+pub mod InOrder
 pub mod Journals
 pub mod Lacking
 pub mod LackingWords

@@ -19,11 +19,11 @@ use Rattle.melt_safepoint.specs.declared.thread.ThreadState.{ThreadState}
 use Rattle.melt_safepoint.specs.declared.thread.Mode.TheVariants.{Running}
 use Rattle.melt_safepoint.specs.Modes.{lost, owes_silent}
 use Rattle.melt_safepoint.specs.Threads.{NoneWaits, AllWait, OweBehindCollects, with_first}
-use Rattle.melt_safepoint.specs.Endings.{HaveCuts}
+use Rattle.melt_safepoint.specs.Endings.{HaveMoments}
 use Rattle.melt_safepoint.specs.Losses.{losses}
 use Rattle.melt_safepoint.specs.Passing.{CollectedFor, CollectedAll, Resumed, NoneOwn}
 use Rattle.melt_safepoint.proofs.Cuts.{first_left}
-use Rattle.melt_safepoint.proofs.Modes.{cuts_mode}
+use Rattle.melt_safepoint.proofs.Modes.{moments_mode}
 use Rattle.melt_safepoint.proofs.Threads.{set_got, sum_set, get_set_same, get_set_other}
 use Rattle.melt_safepoint.proofs.Counting.{Adds, adds_mode, adds_none, adds_then, open_over}
 use Rattle.melt_safepoint.proofs.Passing.{calls_again, again_open, again_some, again_owes, again_lost, MadeAgain}
@@ -40,8 +40,8 @@ pub record AgainBelow (states after : List ThreadState) (n : ℕ) : Type 0 where
   pub rest : (t : ℕ) → n ≤ t → slice_get after t ≡ slice_get states t
   pub table : (told : Bool) (script : Script) (config : Config) (disk : OnDisk) (v : View)
       → TableStands told script config disk v states → IsQuiet v → TableStands told script config disk v after
-  pub cuts : (script : Script) (log : List Entry) (config : Config) (journal : List Journal)
-      → HaveCuts script log states config journal → HaveCuts script log after config journal
+  pub moments : (script : Script) (log : List Entry) (config : Config) (journal : List Journal)
+      → HaveMoments script log states config journal → HaveMoments script log after config journal
   pub collected : (script : Script) (config : Config) → length states ≡ length script.programs
       → Adds script config states after 0 0
   pub lost : losses after ≡ losses states
@@ -76,13 +76,13 @@ again_more states after n s x so_far at made = record {
         | inr not ↦ subst (TableStands told script config disk v)
             (sym (ap (set after n) (made.same not) ∙ set_got after n s at)) before
       ];
-  cuts = λ script log config journal have.
-      let before : HaveCuts script log after config journal = so_far.cuts script log config journal have in
+  moments = λ script log config journal have.
+      let before : HaveMoments script log after config journal = so_far.moments script log config journal have in
       elim (calls_again s.mode) [
         | inl again ↦
-            subst (λ (z : ThreadState). HaveCuts script log (set after n z) config journal) (sym (made.again again))
-            (cuts_mode config log after n Running journal at (again_open s.mode again) before)
-        | inr not ↦ subst (λ (xs : List ThreadState). HaveCuts script log xs config journal)
+            subst (λ (z : ThreadState). HaveMoments script log (set after n z) config journal) (sym (made.again again))
+            (moments_mode config log after n Running journal at (again_open s.mode again) (λ none. none) before)
+        | inr not ↦ subst (λ (xs : List ThreadState). HaveMoments script log xs config journal)
             (sym (ap (set after n) (made.same not) ∙ set_got after n s at)) before
       ];
   collected = λ script config count.

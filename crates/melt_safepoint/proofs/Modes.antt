@@ -24,9 +24,10 @@ use Rattle.melt_safepoint.specs.declared.thread.Mode.TheVariants.{Ended}
 use Rattle.melt_safepoint.specs.Cuts.{IsDue}
 use Rattle.melt_safepoint.specs.Run.{LoadsNext}
 use Rattle.melt_safepoint.specs.Threads.{DueBy, with_first, replies_of, Later, TakesReply}
-use Rattle.melt_safepoint.specs.Modes.{owes_silent, owes, mode_for, MayGo, IsEnded, FitsMode, Waits, words_lacked_by}
-use Rattle.melt_safepoint.specs.Endings.{EndsSo, HaveCuts, IsLostBy, LacksNow}
-use Rattle.melt_safepoint.proofs.Cuts.{replies_here, LacksNow_later, HaveCuts_later, LacksNow_same}
+use Rattle.melt_safepoint.specs.Modes.{HadNoRoom, owes_silent, owes, mode_for, MayGo, IsEnded, FitsMode, Waits, words_lacked_by}
+use Rattle.melt_safepoint.specs.Endings.{EndsSo, HaveMoments, IsLostBy}
+use Rattle.melt_safepoint.proofs.Cuts.{replies_here}
+use Rattle.melt_safepoint.proofs.InOrder.{HaveMoments_later, none_set}
 use Rattle.melt_safepoint.proofs.Threads.{replies_same, later_set}
 
 -- why a thread has ended stays so
@@ -41,9 +42,7 @@ ends_later told script log more config u {mode = Collecting} later at same is en
 ends_later told script log more config u {mode = Asked} later at same is ends = tt
 ends_later told script log more config u {mode = Lacking} later at same is ends = tt
 ends_later told script log more config u {mode = Ended end.Done} later at same is ends = ap length same ∙ ends
-ends_later told script log more config u {mode = Ended (end.OutOfHeap held_words need)} later at same is ends =
-    λ tells. LacksNow_later more later at
-    (let over : IsEnded (Ended (end.OutOfHeap held_words need)) = tt in subst IsEnded (sym is) over) (ends tells)
+ends_later told script log more config u {mode = Ended (end.OutOfHeap held_words need)} later at same is ends = tt
 ends_later told script log more config u {mode = Ended end.DiskFault} later at same is ends =
     subst (LoadsNext script u) (ap length (sym same)) ends
 ends_later told script log more config u {mode = Ended (end.Damaged home place word)} later at same is ends =
@@ -140,14 +139,15 @@ later_mode states t s mode at goes =
     later_set states t s (record s { mode = mode }) [] at goes (sym (append-nil s.replies.items))
 
 -- and the moments of collections are those that they were
-pub cuts_mode : {script : Script} (config : Config) (log : List Entry) (states : List ThreadState) (t : ℕ)
+pub moments_mode : {script : Script} (config : Config) (log : List Entry) (states : List ThreadState) (t : ℕ)
     {s : ThreadState} (mode : Mode) (journal : List Journal) → slice_get states t ≡ Some s → (IsEnded s.mode → ⊥)
-    → HaveCuts script log states config journal
-    → HaveCuts script log (set states t (record s { mode = mode })) config journal
-cuts_mode {script} config log states t {s} mode journal at goes have =
+    → (HadNoRoom mode → ⊥) → HaveMoments script log states config journal
+    → HaveMoments script log (set states t (record s { mode = mode })) config journal
+moments_mode {script} config log states t {s} mode journal at goes room have =
     let after : List ThreadState = set states t (record s { mode = mode }) in
-    subst (λ (h : List Entry). HaveCuts script h after config journal) (append-nil log)
-    (HaveCuts_later script log [] config journal (later_mode states t s mode at goes) have)
+    subst (λ (h : List Entry). HaveMoments script h after config journal) (append-nil log)
+    (HaveMoments_later script log [] config journal (later_mode states t s mode at goes)
+    (none_set states t s (record s { mode = mode }) at room) have)
 
 module _ (told : Bool) (script : Script) (config : Config) where
   -- a thread that has not ended need not say why
@@ -171,8 +171,7 @@ module _ (told : Bool) (script : Script) (config : Config) where
   ends_untold log states t Asked ends = tt
   ends_untold log states t Lacking ends = tt
   ends_untold log states t (Ended end.Done) ends = ends
-  ends_untold log states t (Ended (end.OutOfHeap held_words need)) ends =
-      λ (tells : false ≡ true). absurd (cc)
+  ends_untold log states t (Ended (end.OutOfHeap held_words need)) ends = tt
   ends_untold log states t (Ended end.DiskFault) ends = ends
   ends_untold log states t (Ended (end.Damaged home at word)) ends =
       (λ (tells : false ≡ true). absurd (cc), ends.1, ends.2)
@@ -185,12 +184,7 @@ module _ (told : Bool) (script : Script) (config : Config) where
   ends_gone log states t {s} end.Done at goes ends =
       let after : ThreadState = record s { mode = Ended end.Done } in
       ap length (replies_same states t s after at ∙ sym (replies_here states t s at)) ∙ ends
-  ends_gone log states t {s} (end.OutOfHeap held_words need) at goes ends = λ tells.
-      let after : ThreadState = record s { mode = Ended (end.OutOfHeap held_words need) } in
-      let later : Later states (set states t after) =
-      later_mode states t s (Ended (end.OutOfHeap held_words need)) at goes in
-      subst (λ (h : List Entry). LacksNow script h (set states t after) config t held_words need) (append-nil log)
-      (LacksNow_same [] later (replies_same states t s after at ∙ sym (replies_here states t s at)) (ends tells))
+  ends_gone log states t {s} (end.OutOfHeap held_words need) at goes ends = tt
   ends_gone log states t {s} end.DiskFault at goes ends =
       let after : ThreadState = record s { mode = Ended end.DiskFault } in
       subst (LoadsNext script t) (ap length (replies_here states t s at ∙ sym (replies_same states t s after at))) ends

@@ -1,13 +1,14 @@
 -- The moment at which a run stands, as one of a collection, or one at which a thread lacks room.
-use Rattle.std.proofs.Common.{◌≡◌, ℕ, ◌+◌, ◌<◌, ◌≤◌, true, cond, List, [], ◌∷◌, ◌++◌, length, take}
+use Rattle.std.proofs.Common.{◌≡◌, ℕ, zero, suc, ◌+◌, ◌*◌, ◌<◌, ◌≤◌, true, cond, List, [], ◌∷◌, ◌++◌, length, take}
 use Rattle.std.proofs.Common.{drop, refl, sym, ◌∙◌, ap, subst, arith, ◌⊎◌, inl, inr}
 use Rattle.std.proofs.Math.ListN.{length-map}
 use Rattle.std.proofs.Math.Seq.{take-length}
 use Rattle.std.proofs.lemmas.Bool.{ne_eqb}
 use Rattle.std.proofs.lemmas.List.{take-append-drop, get_or_past}
 use Rattle.std.proofs.lemmas.List.Elements.{recursion_from_All}
+use Rattle.std.proofs.lemmas.List.Sums.{sum-map, sum_by-cons}
 use Rattle.std.proofs.lemmas.Option.{slice_get_cases}
-use Rattle.std.specs.Prelude.{Bool, map, if◌then◌else◌, Option, None, Some, slice_get}
+use Rattle.std.specs.Prelude.{Bool, map, sum, if◌then◌else◌, Option, None, Some, slice_get}
 use Rattle.std.specs.List.{AllByRecursion}
 use Rattle.melt_model.specs.Alive.{Held, words_of, CostsSum}
 use Rattle.melt_model.specs.Thread.{own_from, own, registers_after, value_in, Transcript}
@@ -18,20 +19,27 @@ use Rattle.melt_model.specs.declared.history.Value.TheVariants.{Nil}
 use Rattle.melt_model.specs.declared.operations.Op.{Op}
 use Rattle.melt_model.specs.declared.operations.Reply.{Reply}
 use Rattle.melt_model.specs.declared.reports.Journal.{Journal}
+use Rattle.melt_model.proofs.Histories.{slice_get-append_seam}
 use Rattle.melt_model.proofs.Transcripts.{Transcript_so_far, registers_so_far, one_reply_each}
 use Rattle.melt_trace.specs.Script.{Script, operations}
 use Rattle.melt_scion.specs.declared.registers.Registers.{Registers}
 use Rattle.melt_scion.specs.Heaps.{OnDisk}
 use Rattle.melt_core.specs.Views.{View, value, values_of, held_values}
 use Rattle.melt_core.proofs.Values.{get_or_replicate}
+use Rattle.melt_safepoint.specs.declared.thread.Mode.{Mode}
+use Rattle.melt_safepoint.specs.declared.thread.Mode.TheVariants.{Asked, Collecting, Due, Ended, Lacking, Running, Silent}
 use Rattle.melt_safepoint.specs.declared.thread.ThreadState.{ThreadState}
 use Rattle.melt_safepoint.specs.Needs.{NeedsWords}
-use Rattle.melt_safepoint.specs.Cuts.{Cut, IsDue, IsCut, IsCutAt, EndsWithCollect, LacksRoom}
-use Rattle.melt_safepoint.specs.Threads.{with_first, HadCollect, OweBehindCollects, replies_of}
+use Rattle.melt_safepoint.specs.Asked.{collections, total}
+use Rattle.melt_safepoint.specs.Counts.{CountsCollections, answers}
+use Rattle.melt_safepoint.specs.Cuts.{CountsBy, Cut, EndsWithCollect, IsCut, IsCutAt, IsDue, IsMoment, LacksRoom}
+use Rattle.melt_safepoint.specs.Cuts.{collection, open_by, replies_at, replies_by}
+use Rattle.melt_safepoint.specs.Threads.{with_first, HadCollect, OweBehindCollects, owing, replies_of}
 use Rattle.melt_safepoint.specs.Modes.{owes_silent, FitsMode, IsEnded, owes}
-use Rattle.melt_safepoint.specs.Endings.{LacksNow, HasCut}
-use Rattle.melt_safepoint.proofs.Cuts.{replies_here, replies_past, registers_by, HoldsBy, ReachesBy, NeedsBy, has_gone}
-use Rattle.melt_safepoint.proofs.Cuts.{now, gone_cases, gone_here, gone_past, gone_now, owes_last, none_next}
+use Rattle.melt_safepoint.specs.Endings.{gone_in, has_gone, now}
+use Rattle.melt_safepoint.proofs.Asked.{asked_same, collections_same}
+use Rattle.melt_safepoint.proofs.Cuts.{replies_here, replies_past, registers_by, HoldsBy, ReachesBy, NeedsBy}
+use Rattle.melt_safepoint.proofs.Cuts.{gone_cases, gone_here, gone_past, owes_last, none_next}
 use Rattle.melt_safepoint.proofs.Cuts.{words_same, held_words_same, needs_same, first_left}
 use Rattle.melt_safepoint.specs.Collections.{Gathers}
 use Rattle.melt_safepoint.specs.Tables.{IsTold, ThreadStands, TableStands}
@@ -180,27 +188,98 @@ registers_now {script} {v} {states} u r table =
     ]
 
 -- now is the moment of a collection that finds the words of the view
-pub cut_now : (script : Script) (config : Config) (disk : OnDisk) (v : View) (states : List ThreadState)
-    (entry : Journal) → TableStands true script config disk v states → Gathers v entry
-    → HasCut script v.log states config entry
-cut_now script config disk v states entry table gathers =
+pub moment_now : (script : Script) (config : Config) (disk : OnDisk) (v : View) (states : List ThreadState)
+    (journal : List Journal) (entry : Journal) → TableStands true script config disk v states → Gathers v entry
+    → IsMoment script v.log (replies_of states) config (journal ++ entry ∷ []) (length journal) (now v.log states)
+    collection
+moment_now script config disk v states journal entry table gathers =
     let cut : Cut = now v.log states in
     let same : (u r : ℕ) → value v u r ≡ registers_by script cut v.log u r =
     λ u r. sym (registers_now u r table) in
     let holds : HoldsBy script cut entry.held v.log =
     held_words_same v.log (value v) (registers_by script cut v.log) entry.held same gathers.holds in
     let reach : ReachesBy script cut gathers.alive v.log =
-    words_same v.log (value v) (registers_by script cut v.log) gathers.alive same gathers.reach in
+    words_same v.log (value v) (registers_by script cut v.log) gathers.alive same gathers.reach in (
+      IsCut_now script config disk v states table,
+      (
+        entry,
+        slice_get-append_seam journal entry [],
+        record {
+          holds = subst (HoldsBy script cut entry.held) (sym (take-length v.log)) holds;
+          alive = gathers.alive;
+          reach = subst (ReachesBy script cut gathers.alive) (sym (take-length v.log)) reach;
+          fits = gathers.fits;
+        },
+      ),
+    )
+
+-- ---- what is counted now
+
+-- the sum of what the first of some numbers has, and then the others
+total_front : (f : ℕ → ℕ) (n : ℕ) → total f (suc n) ≡ f 0 + total (λ u. f (suc u)) n
+total_front f zero = omega arith
+total_front f (suc n) = omega (arith, total_front f n)
+
+sum_first : (f : ThreadState → ℕ) (s : ThreadState) (states : List ThreadState)
+    → sum (map f (s ∷ states)) ≡ f s + sum (map f states)
+sum_first f s states = omega (arith, sum-map f (s ∷ states), sum_by-cons f s states, sum-map f states)
+
+answers_now : (log : List Entry) (states : List ThreadState)
+    → replies_by (now log states) (length states) ≡ answers states
+answers_now log [] = refl
+answers_now log (s ∷ states) =
+    let first : replies_by (now log (s ∷ states)) (suc (length states))
+    ≡ length s.replies.items + replies_by (now log states) (length states) =
+    total_front (now log (s ∷ states)).replies (length states) in
+    let one : answers (s ∷ states) ≡ length s.replies.items + answers states =
+    sum_first (λ (x : ThreadState). length x.replies.items) s states in
+    first ∙ (ap (λ (k : ℕ). length s.replies.items + k) (answers_now log states) ∙ sym one)
+
+-- a silent collection is still to come of a thread that has not ended
+owes_open : (mode : Mode) → owes mode ≤ (if has_gone mode then 0 else 1)
+owes_open Running = omega arith
+owes_open Due = omega arith
+owes_open Silent = omega arith
+owes_open Collecting = omega arith
+owes_open Asked = omega arith
+owes_open Lacking = omega arith
+owes_open (Ended e) = omega arith
+
+owing_open : (log : List Entry) (states : List ThreadState)
+    → owing states ≤ open_by (now log states) (length states)
+owing_open log [] = omega arith
+owing_open log (s ∷ states) =
+    let first : open_by (now log (s ∷ states)) (suc (length states))
+    ≡ (if has_gone s.mode then 0 else 1) + open_by (now log states) (length states) =
+    total_front (λ u. if gone_in (s ∷ states) u then 0 else 1) (length states) in
+    let one : owing (s ∷ states) ≡ owes s.mode + owing states =
+    sum_first (λ (x : ThreadState). owes x.mode) s states in
+    let more : owing (s ∷ states) ≤ (if has_gone s.mode then 0 else 1) + open_by (now log states) (length states) =
+    omega (arith, one, owes_open s.mode, owing_open log states) in
+    subst (λ (k : ℕ). owing (s ∷ states) ≤ k) (sym first) more
+
+-- the collections so far are counted at the moment
+pub counts_now : (script : Script) (config : Config) (unpaid : ℕ) (log : List Entry) (states : List ThreadState)
+    (made : ℕ) → length states ≡ length script.programs → CountsCollections script config unpaid states made
+    → CountsBy script config (replies_of states) (now log states) made
+counts_now script config unpaid log states made count counts =
+    let n : ℕ = length script.programs in
+    let cut : Cut = now log states in
+    let same : (t : ℕ) → replies_of states t ≡ replies_at (replies_of states) cut t =
+    λ t. sym (take-length (replies_of states t)) in
+    let all : collections script config (replies_of states) n
+    ≡ collections script config (replies_at (replies_of states) cut) n =
+    collections_same script config (replies_of states) (replies_at (replies_of states) cut) same n in
+    let owed : owing states ≤ open_by cut n =
+    subst (λ (k : ℕ). owing states ≤ open_by cut k) count (owing_open log states) in
+    let told : replies_by cut n ≡ answers states =
+    ap (replies_by cut) (sym count) ∙ answers_now log states in
     record {
-      cut = cut;
-      is_cut = IsCut_now script config disk v states table;
-      collected = record {
-        holds = subst (HoldsBy script cut entry.held) (sym (take-length v.log)) holds;
-        alive = gathers.alive;
-        reach = subst (ReachesBy script cut gathers.alive) (sym (take-length v.log)) reach;
-        fits = gathers.fits;
-      };
-      gone = gone_now v.log states;
+      asked = subst (λ (k : ℕ). k ≤ made)
+          (asked_same script (replies_of states) (replies_at (replies_of states) cut) same n) counts.asked;
+      collected = subst (λ (k : ℕ). k ≤ made + open_by cut n) all (omega (arith, counts.collected, owed));
+      bounded = subst (λ (k : ℕ). made ≤ k + 3 * (replies_by cut n + n)) all
+          (omega (arith, counts.bounded, counts.pays, told, count));
     }
 
 -- the next operation of a thread is that of the script behind its replies
@@ -218,7 +297,8 @@ pub lacks_room : {script : Script} {config : Config} {disk : OnDisk} {v : View} 
     {held_words : ℕ} {o : Op} {s : ThreadState} → TableStands true script config disk v states
     → slice_get states t ≡ Some s → (IsEnded s.mode → ⊥) → OweBehindCollects script states → s.op ≡ Some o
     → NeedsWords v.log (value v) t o need → CostsSum (words_of v.log) (Held (value v)) held_words
-    → config.heap < held_words + need → LacksNow script v.log states config t held_words need
+    → config.heap < held_words + need
+    → LacksRoom script v.log (replies_of states) config (now v.log states) t held_words need
 lacks_room {script} {config} {disk} {v} {states} t need {held_words} {o} table at goes owe next needs held above =
     let cut : Cut = now v.log states in
     let same : (u r : ℕ) → value v u r ≡ registers_by script cut v.log u r =
@@ -227,8 +307,7 @@ lacks_room {script} {config} {disk} {v} {states} t need {held_words} {o} table a
     held_words_same v.log (value v) (registers_by script cut v.log) held_words same held in
     let needed : NeedsBy script cut t o need v.log =
     needs_same v.log (value v) (registers_by script cut v.log) t o need same needs in
-    let lacks : LacksRoom script v.log (replies_of states) config t held_words need = record {
-      cut = cut;
+    record {
       is_cut = IsCutAt_now t table at goes;
       over = λ u all. over_alone script config disk v states u table owe all;
       op = o;
@@ -236,5 +315,4 @@ lacks_room {script} {config} {disk} {v} {states} t need {held_words} {o} table a
       needed = subst (NeedsBy script cut t o need) (sym (take-length v.log)) needed;
       holds = subst (HoldsBy script cut held_words) (sym (take-length v.log)) holds;
       above = above;
-    } in
-    (lacks, gone_now v.log states)
+    }

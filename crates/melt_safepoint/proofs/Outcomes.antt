@@ -1,7 +1,7 @@
 -- What a run reports of its threads when it has ended, or was halted.
 use Rattle.std.specs.Prelude.{Bool, Some, IsSome, slice_get, take, map, sum, if◌then◌else◌, true, false}
 use Rattle.std.specs.List.{count_by, sum_by}
-use Rattle.std.proofs.Common.{◌≡◌, ℕ, ◌+◌, ◌<◌, ◌≤◌, zero, suc, List, [], ◌∷◌, length, refl, sym, ◌∙◌, ap, subst, arith}
+use Rattle.std.proofs.Common.{◌≡◌, ℕ, ◌<◌, ◌≤◌, suc, List, [], ◌∷◌, length, refl, sym, ◌∙◌, ap, subst, arith}
 use Rattle.std.proofs.Common.{◌⊎◌, inl, inr}
 use Rattle.std.proofs.lemmas.List.Sums.{sum-map, sum_by-cons}
 use Rattle.std.proofs.lemmas.Option.{slice_get_cases}
@@ -9,6 +9,7 @@ use Rattle.melt_model.specs.Thread.{Transcript}
 use Rattle.melt_model.specs.declared.config.Config.{Config}
 use Rattle.melt_model.specs.declared.history.Entry.{Entry}
 use Rattle.melt_model.specs.declared.operations.Reply.{Reply}
+use Rattle.melt_model.specs.declared.reports.Journal.{Journal}
 use Rattle.melt_model.specs.declared.reports.Report.{Report}
 use Rattle.melt_model.specs.declared.reports.ThreadEnd.{ThreadEnd}
 use Rattle.melt_model.specs.declared.reports.ThreadEnd.TheVariants as end
@@ -18,12 +19,13 @@ use Rattle.melt_safepoint.specs.declared.thread.ThreadState.{ThreadState}
 use Rattle.melt_safepoint.specs.declared.thread.Mode.{Mode}
 use Rattle.melt_safepoint.specs.declared.thread.Mode.TheVariants as mode
 use Rattle.melt_safepoint.specs.Modes.{halted_mode, owes, lost, IsEnded}
-use Rattle.melt_safepoint.specs.Run.{silent_in, is_collect, is_halted, is_lost, collects}
-use Rattle.melt_safepoint.specs.Run.{collects_of, collections_of, collections}
-use Rattle.melt_safepoint.specs.Cuts.{Cut, IsCut, LacksRoom}
+use Rattle.melt_safepoint.specs.Run.{is_halted, is_lost}
+use Rattle.melt_safepoint.specs.Cuts.{AreMoments, Cut, IsCut, IsMoment, LacksRoom, Moment, Occasion}
+use Rattle.melt_safepoint.specs.Cuts.{collection, collections_among, no_room}
 use Rattle.melt_safepoint.specs.Counts.{answers}
 use Rattle.melt_safepoint.specs.Losses.{losses}
 use Rattle.melt_safepoint.specs.Endings.{EndsSo}
+use Rattle.melt_safepoint.proofs.InOrder.{counted_same}
 use Rattle.melt_safepoint.proofs.Reporting.{Reported}
 
 -- a moment, by other lists of the same replies
@@ -41,12 +43,11 @@ IsCut_same script log a b config cut same is = record {
 
 -- the next operation had no room, by other lists of the same replies
 pub LacksRoom_same : {script : Script} {log : List Entry} {a : ℕ → List Reply} (b : ℕ → List Reply) {config : Config}
-    {t held_words need : ℕ} → ((u : ℕ) → a u ≡ b u) → LacksRoom script log a config t held_words need
-    → LacksRoom script log b config t held_words need
-LacksRoom_same {script} {log} {a} b {config} {t} same lacks = record {
-  cut = lacks.cut;
+    {cut : Cut} {t held_words need : ℕ} → ((u : ℕ) → a u ≡ b u) → LacksRoom script log a config cut t held_words need
+    → LacksRoom script log b config cut t held_words need
+LacksRoom_same {script} {log} {a} b {config} {cut} {t} same lacks = record {
   is_cut = record {
-    is = IsCut_same script log a b config lacks.cut same lacks.is_cut.is;
+    is = IsCut_same script log a b config cut same lacks.is_cut.is;
     count = lacks.is_cut.count ∙ ap length (same t);
     alive = lacks.is_cut.alive;
   };
@@ -58,23 +59,25 @@ LacksRoom_same {script} {log} {a} b {config} {t} same lacks = record {
   above = lacks.above;
 }
 
--- the collections that threads got, by other lists of the same replies
-pub collections_same : (script : Script) (config : Config) (a b : ℕ → List Reply) → ((t : ℕ) → a t ≡ b t) → (n : ℕ)
-    → collections script config a n ≡ collections script config b n
-collections_same script config a b same zero = refl
-collections_same script config a b same (suc n) =
-    ap (λ (k : ℕ). k + collections_of script config a n) (collections_same script config a b same n)
-    ∙ ap (λ (rs : List Reply). collections script config b n
-    + (count_by is_collect (take (length rs) (operations script n)) + silent_in config.every (length rs))) (same n)
+-- the moments of a run, by other lists of the same replies
+module _ (script : Script) (log : List Entry) (config : Config) (journal : List Journal) (made : ℕ) (cut : Cut) where
+  moment_same : (a b : ℕ → List Reply) → ((t : ℕ) → a t ≡ b t) → (of : Occasion)
+      → IsMoment script log a config journal made cut of → IsMoment script log b config journal made cut of
+  moment_same a b same collection is = (IsCut_same script log a b config cut same is.0, is.1)
+  moment_same a b same (no_room t held_words need) is = LacksRoom_same b same is
 
--- and the `collect`s
-pub asked_same : (script : Script) (a b : ℕ → List Reply) → ((t : ℕ) → a t ≡ b t) → (n : ℕ)
-    → collects script a n ≡ collects script b n
-asked_same script a b same zero = refl
-asked_same script a b same (suc n) =
-    ap (λ (k : ℕ). k + collects_of script a n) (asked_same script a b same n)
-    ∙ ap (λ (rs : List Reply). collects script b n + count_by is_collect (take (length rs) (operations script n)))
-    (same n)
+pub are_same : {script : Script} {log : List Entry} {a : ℕ → List Reply} (b : ℕ → List Reply) {config : Config}
+    {journal : List Journal} {moments : List Moment} → ((t : ℕ) → a t ≡ b t)
+    → AreMoments script log a config journal moments → AreMoments script log b config journal moments
+are_same {script} {log} {a} b {config} {journal} {moments} same are = record {
+  each = λ i m at. moment_same script log config journal (collections_among (take i moments)) m.cut a b same m.of
+      (are.each i m at);
+  counts = λ i m at. counted_same script config a b m.cut (λ t. ap (take (m.cut.replies t)) (same t))
+      (are.counts i m at);
+  order = are.order;
+  gone = are.gone;
+  all = are.all;
+}
 
 -- a thread of the run
 pub state_at : (states : List ThreadState) (t : ℕ) → t < length states

@@ -96,6 +96,7 @@ left_heap : {told : Bool} {script : Script} {config : Config} (seen : Shown) {di
 left_heap {told} {script} {config} seen {disk} {heap} {v} {states} report table shows under log = record {
   globals = ap length (sym shows.globals) ∙ table.globals;
   words = ap (λ (x : SpaceWords). length x.list) (sym shows.space) ∙ table.words;
+  forward_words = ap length (sym shows.forward) ∙ table.forward_words;
   placed = λ is. (
     maps v,
     (

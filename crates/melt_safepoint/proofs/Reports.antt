@@ -3,10 +3,9 @@ use Rattle.std.proofs.Common.{◌≡◌, ℕ, ◌+◌, ◌*◌, ◌<◌, ◌≤�
 use Rattle.std.proofs.Common.{subst, arith}
 use Rattle.std.proofs.Common.{inl, inr}
 use Rattle.std.proofs.Math.ListN.{length-map}
-use Rattle.std.proofs.lemmas.List.Elements.{All-get_or}
 use Rattle.std.proofs.lemmas.List.Sums.{sum-map}
-use Rattle.std.proofs.lemmas.Option.{slice_get_cases, slice_get_within, get_or_from_slice_get}
-use Rattle.std.specs.Prelude.{Bool, true, Option, Some, IsSome, slice_get, All}
+use Rattle.std.proofs.lemmas.Option.{slice_get_cases, slice_get_within}
+use Rattle.std.specs.Prelude.{Bool, true, false, Option, Some, IsSome, slice_get, All}
 use Rattle.std.specs.List.{sum_by}
 use Rattle.std.specs.Option.{option_map_or}
 use Rattle.melt_model.specs.History.{Legal}
@@ -26,19 +25,21 @@ use Rattle.melt_safepoint.specs.declared.thread.ThreadState.{ThreadState}
 use Rattle.melt_safepoint.specs.declared.thread.Mode.{Mode}
 use Rattle.melt_safepoint.specs.declared.thread.Mode.TheVariants as mode
 use Rattle.melt_safepoint.specs.Threads.{AreHalted, halted, owing, replies_of}
-use Rattle.melt_safepoint.specs.Modes.{halted_mode, owes}
+use Rattle.melt_safepoint.specs.Modes.{IsEnded, halted_mode, owes}
 use Rattle.melt_safepoint.specs.Journals.{IsJournalOf}
-use Rattle.melt_safepoint.specs.Run.{is_halted, replies_in, halted_in, LoadsNext, MayEnd, MayHalt, HasCuts, HasHistory}
-use Rattle.melt_safepoint.specs.Run.{collects, collections, replies_told, IsStepReport}
-use Rattle.melt_safepoint.specs.Cuts.{IsCut, IsCollectedAt}
-use Rattle.melt_safepoint.specs.Endings.{EndsSo, HasCut, HaveCuts}
+use Rattle.melt_safepoint.specs.Run.{is_halted, replies_in, halted_in, LoadsNext, MayEnd, MayHalt, HasHistory}
+use Rattle.melt_safepoint.specs.Asked.{collects, collections}
+use Rattle.melt_safepoint.specs.Run.{replies_told, IsStepReport}
+use Rattle.melt_safepoint.specs.Cuts.{AreMoments, IsAmong, Moment, no_room}
+use Rattle.melt_safepoint.specs.Endings.{EndsSo, HaveMoments}
 use Rattle.melt_safepoint.specs.Made.{MakesWithin}
 use Rattle.melt_safepoint.specs.Shown.{Shown}
 use Rattle.melt_safepoint.proofs.Cuts.{replies_here, replies_past}
 use Rattle.melt_safepoint.proofs.Halting.{halted_at}
 use Rattle.melt_safepoint.proofs.Reporting.{Reported}
-use Rattle.melt_safepoint.proofs.Outcomes.{IsCut_same, collections_same, asked_same, state_at, EndsAs, halted_cases}
-use Rattle.melt_safepoint.proofs.Outcomes.{LacksRoom_same, same_end, counts_less, owes_ended, told_less}
+use Rattle.melt_safepoint.proofs.Asked.{asked_same, collections_same}
+use Rattle.melt_safepoint.proofs.Outcomes.{EndsAs, are_same, halted_cases, state_at}
+use Rattle.melt_safepoint.proofs.Outcomes.{same_end, counts_less, owes_ended, told_less}
 use Rattle.melt_safepoint.specs.declared.ending.Ended.{Ended}
 use Rattle.melt_safepoint.specs.Ended.{EndedStands}
 use Rattle.melt_safepoint.specs.Tables.{TableStands}
@@ -104,33 +105,38 @@ replies_same states ended report reports t =
           ∙ sym (ap by w.1)
     ]
 
--- why a thread may end so
-may_end : (told : Bool) (script : Script) (config : Config) {states : List ThreadState} {ended : Ended}
-    {report : Report} (t : ℕ) (e : ThreadEnd) → Reports states ended report
-    → EndsSo told script report.history states config t (mode.Ended e) → MayEnd told script config report t e
-may_end told script config {states} {ended} {report} t end.Done reports ends =
+-- why a thread may end so, where these are the moments of the run
+may_end : (told : Bool) (script : Script) (config : Config) (moments : List Moment) {states : List ThreadState}
+    {ended : Ended} {report : Report} (t : ℕ) (e : ThreadEnd) → Reports states ended report
+    → ((held_words need : ℕ) → e ≡ end.OutOfHeap held_words need → told ≡ true
+    → IsAmong moments (no_room t held_words need))
+    → EndsSo told script report.history states config t (mode.Ended e) → MayEnd told script config moments report t e
+may_end told script config moments {states} {ended} {report} t end.Done reports room ends =
     ap length (sym (replies_same states ended report reports t)) ∙ ends
-may_end told script config {states} {ended} {report} t (end.OutOfHeap held_words need) reports ends = λ is.
-    LacksRoom_same (replies_in report) (replies_same states ended report reports) (ends is).0
-may_end told script config {states} {ended} {report} t end.DiskFault reports ends =
+may_end told script config moments t (end.OutOfHeap held_words need) reports room ends = room held_words need refl
+may_end told script config moments {states} {ended} {report} t end.DiskFault reports room ends =
     subst (LoadsNext script t) (ap length (replies_same states ended report reports t)) ends
-may_end told script config {states} {ended} {report} t (end.Damaged home at word) reports ends = (
+may_end told script config moments {states} {ended} {report} t (end.Damaged home at word) reports room ends = (
   ends.0,
   subst (LoadsNext script t) (ap length (replies_same states ended report reports t)) ends.1,
   ends.2,
 )
-may_end told script config t end.Halted reports ends = absurd ends
+may_end told script config moments t end.Halted reports room ends = absurd ends
 
 -- so of each thread of the report
-reported_end : (told : Bool) (script : Script) (config : Config) {ended : Ended} {report : Report}
-    {states : List ThreadState} (t : ℕ) (s : ThreadState) (r : ThreadReport) → Reports states ended report
+reported_end : (told : Bool) (script : Script) (config : Config) (moments : List Moment) {ended : Ended}
+    {report : Report} {states : List ThreadState} (t : ℕ) (s : ThreadState) (r : ThreadReport)
+    → Reports states ended report
+    → ((held_words need : ℕ) → s.mode ≡ mode.Ended (end.OutOfHeap held_words need) → told ≡ true
+    → IsAmong moments (no_room t held_words need))
     → EndsSo told script report.history states config t s.mode → EndsAs report s r
-    → MayEnd told script config report t r.end
-reported_end told script config {ended} {report} {states} t s r reports so (inl ends) =
-    may_end told script config t r.end reports
+    → MayEnd told script config moments report t r.end
+reported_end told script config moments {ended} {report} {states} t s r reports room so (inl ends) =
+    may_end told script config moments t r.end reports
+    (λ held_words need is. room held_words need (ends ∙ ap (λ (e : ThreadEnd). mode.Ended e) is))
     (subst (λ (m : Mode). EndsSo told script report.history states config t m) ends so)
-reported_end told script config {ended} {report} {states} t s r reports so (inr halts) =
-    subst (λ (e : ThreadEnd). MayEnd told script config report t e) (sym halts.1) halts.2
+reported_end told script config moments {ended} {report} {states} t s r reports room so (inr halts) =
+    subst (λ (e : ThreadEnd). MayEnd told script config moments report t e) (sym halts.1) halts.2
 
 -- silent collections that are still to come are those of threads that are halted
 owing_halted : (states : List ThreadState) (ended : Ended) (report : Report) → Reports states ended report
@@ -166,24 +172,64 @@ history_of {script} {config} {disk} {v} {states} {ended} {report} table reports 
   own_threads = subst (λ (h : List Entry). All (λ (e : Entry). e.thread < length script.programs) h) history table.own;
 }
 
--- and the moments of collections are
-cuts_of : (script : Script) (config : Config) (v : View) (states : List ThreadState) (ended : Ended) (report : Report)
-    → HaveCuts script v.log states config ended.journal.items → Reports states ended report → v.log ≡ report.history
-    → HasCuts script config report
-cuts_of script config v states ended report have reports history = λ k entry at.
-    let there : slice_get ended.journal.items k ≡ Some entry =
-    subst (λ (js : List Journal). slice_get js k ≡ Some entry) reports.journal at in
-    let below : k < length ended.journal.items = slice_get_within ended.journal.items k entry there in
-    let here : HasCut script v.log states config entry =
-    subst (HasCut script v.log states config) (get_or_from_slice_get ended.journal.items k entry entry there)
-    (All-get_or (HasCut script v.log states config) ended.journal.items k entry below have) in
-    let is_cut : IsCut script report.history (replies_of states) config here.cut =
-    subst (λ (h : List Entry). IsCut script h (replies_of states) config here.cut) history here.is_cut in (
-      here.cut,
-      IsCut_same script report.history (replies_of states) (replies_in report) config here.cut
-          (replies_same states ended report reports) is_cut,
-      subst (λ (h : List Entry). IsCollectedAt script h entry here.cut) history here.collected,
-    )
+-- ---- the moments of the run
+
+module _ (script : Script) (log : List Entry) (states : List ThreadState) (config : Config) (journal : List Journal)
+  where
+    -- the moments of a run that is told; of any other there are none
+    abbrev the_moments : (told : Bool) → (told ≡ true → HaveMoments script log states config journal) → List Moment
+    the_moments true have = (have refl).moments
+    the_moments false have = []
+
+    are_the : (told : Bool) (have : told ≡ true → HaveMoments script log states config journal) → told ≡ true
+        → AreMoments script log (replies_of states) config journal (the_moments told have)
+    are_the true have is = (have refl).are
+    are_the false have is = absurd (let wrong : false ≡ true = is in cc)
+
+    gone_the : (told : Bool) (have : told ≡ true → HaveMoments script log states config journal) → told ≡ true
+        → (t held_words need : ℕ) (s : ThreadState) → slice_get states t ≡ Some s
+        → s.mode ≡ mode.Ended (end.OutOfHeap held_words need)
+        → IsAmong (the_moments told have) (no_room t held_words need)
+    gone_the true have is = (have refl).gone
+    gone_the false have is = absurd (let wrong : false ≡ true = is in cc)
+
+    real_the : (told : Bool) (have : told ≡ true → HaveMoments script log states config journal) → told ≡ true
+        → (t held_words need : ℕ) → IsAmong (the_moments told have) (no_room t held_words need)
+        → (s : ThreadState) × (slice_get states t ≡ Some s) × (s.mode ≡ mode.Ended (end.OutOfHeap held_words need))
+    real_the true have is = (have refl).real
+    real_the false have is = absurd (let wrong : false ≡ true = is in cc)
+
+-- they are those of the report
+moments_of : {script : Script} {config : Config} (v : View) {states : List ThreadState} {ended : Ended}
+    {report : Report} {moments : List Moment} → Reports states ended report → v.log ≡ report.history
+    → AreMoments script v.log (replies_of states) config ended.journal.items moments
+    → AreMoments script report.history (replies_in report) config report.journal moments
+moments_of {script} {config} v {states} {ended} {report} {moments} reports history are =
+    are_same (replies_in report) (replies_same states ended report reports)
+    (subst (λ (js : List Journal). AreMoments script report.history (replies_of states) config js moments)
+    (sym reports.journal)
+    (subst (λ (h : List Entry). AreMoments script h (replies_of states) config ended.journal.items moments) history
+    are))
+
+-- a thread that had no room is told so
+lacked_of : {states : List ThreadState} {ended : Ended} {report : Report} → Reports states ended report
+    → (t held_words need : ℕ) (s : ThreadState) → slice_get states t ≡ Some s
+    → s.mode ≡ mode.Ended (end.OutOfHeap held_words need)
+    → (r : ThreadReport) × (slice_get report.threads t ≡ Some r) × (r.end ≡ end.OutOfHeap held_words need)
+lacked_of {states} {ended} {report} reports t held_words need s at is =
+    elim (slice_get_cases report.threads t).1 [
+      | inl w ↦ (
+        w.0,
+        w.2,
+        elim (reports.ends t s w.0 at w.2) [
+          | inl so ↦ sym (same_end (end.OutOfHeap held_words need) w.0.end (sym is ∙ so))
+          | inr goes ↦ absurd (goes.0 (subst IsEnded (sym is) tt))
+        ],
+      )
+      | inr w ↦ absurd (
+          let below : t < length states = slice_get_within states t s at in
+          omega (arith, below, w.0, reports.count))
+    ]
 
 -- the report has the replies and the end of each thread, the journal and the history
 pub step_report : {told : Bool} {script : Script} {config : Config} {shown : Shown} {ended : Ended} {report : Report}
@@ -198,15 +244,24 @@ step_report {told} {script} {config} {ended} {report} stands reports halts =
     record {
       history = λ is. history_of (as_told told script config stands.disk v states is table) reports history;
       threads = threads;
+      moments = the_moments script v.log states config ended.journal.items told stands.moments;
       ends = λ t r at.
           let below : t < length report.threads = slice_get_within report.threads t r at in
           let state = state_at states t (omega (arith, below, reports.count)) in
-          reported_end told script config t state.0 r reports
+          reported_end told script config
+          (the_moments script v.log states config ended.journal.items told stands.moments) t state.0 r reports
+          (λ held_words need so is. gone_the script v.log states config ended.journal.items told stands.moments is t
+          held_words need state.0 state.1 so)
           (subst (λ (h : List Entry). EndsSo told script h states config t state.0.mode) history
           (table.ends t state.0 state.1)) (reports.ends t state.0 r state.1 at);
       halt = halts;
       journal = subst (IsJournalOf config) (sym reports.journal) stands.journal;
-      cuts = λ is. cuts_of script config v states ended report (stands.cuts is) reports history;
+      are_moments = λ is. moments_of v reports history
+          (are_the script v.log states config ended.journal.items told stands.moments is);
+      lacked = λ is t held_words need among.
+          let x = real_the script v.log states config ended.journal.items told stands.moments is t held_words need
+          among in
+          lacked_of reports t held_words need x.0 x.1 x.2;
       collected =
           let all : collections script config (replies_in report) (length script.programs)
           ≤ length report.journal + halted_in report =

@@ -163,3 +163,11 @@ room_before states after t all waits = elim (slice_get_cases states t).1 [
   | inr w ↦ absurd (let within : t < length after = slice_get_within after t waits.0 waits.1 in
       omega (arith, within, all.count, w.0))
 ]
+
+-- the lowest of them is the lowest
+pub lowest_before : (states after : List ThreadState) (t : ℕ) → CollectedAll states after
+    → NoneBelow (λ mode. mode ≡ Lacking) after t → NoneBelow (λ mode. mode ≡ Lacking) states t
+lowest_before states after t all none u s below at lacks =
+    let x : (x : ThreadState) × (slice_get after u ≡ Some x) × CollectedFor s x = all.each u s at in
+    let never : ForCollection s.mode → ⊥ = λ own. subst ForCollection lacks own in
+    none u x.0 below x.1 (ap (λ (z : ThreadState). z.mode) (x.2.same never) ∙ lacks)

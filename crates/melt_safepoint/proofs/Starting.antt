@@ -13,10 +13,11 @@ use Rattle.melt_model.specs.declared.operations.Op.{Op}
 use Rattle.melt_trace.specs.Script.{Script, operations}
 use Rattle.melt_safepoint.specs.declared.thread.ThreadState.{ThreadState}
 use Rattle.melt_safepoint.specs.Counts.{CountsCollections}
-use Rattle.melt_safepoint.specs.Run.{collects, is_collect, silent_in, collections, HasNoOperations}
+use Rattle.melt_safepoint.specs.Asked.{collects, is_collect, silent_in, collections}
+use Rattle.melt_safepoint.specs.Run.{HasNoOperations}
 use Rattle.melt_safepoint.specs.Threads.{AreNewThreads, IsNewThread, replies_of, owing, AllEnded, left, with_first}
 use Rattle.melt_safepoint.specs.Endings.{EndsSo}
-use Rattle.melt_safepoint.specs.Modes.{lost, owes, IsEnded}
+use Rattle.melt_safepoint.specs.Modes.{HadNoRoom, lost, owes, IsEnded}
 use Rattle.melt_safepoint.specs.Losses.{losses}
 use Rattle.melt_safepoint.proofs.Counting.{overs_most}
 use Rattle.melt_safepoint.proofs.Cuts.{replies_here, replies_past}
@@ -40,6 +41,14 @@ ends_new told {script} log config {entries} t {states} {s} new_states at =
       | inr over ↦ subst (EndsSo told script log states config t) (sym over.0)
           (ap length (no_replies script entries t states new_states) ∙ ap length (sym over.1 ∙ new.to_come))
     ]
+
+-- no thread has ended for want of room before the first event
+pub none_new : {script : Script} {entries : ℕ} {states : List ThreadState} → AreNewThreads script states entries
+    → (t : ℕ) (s : ThreadState) → slice_get states t ≡ Some s → HadNoRoom s.mode → ⊥
+none_new new_states t s at none = elim (new_states.each t s at).mode [
+  | inl runs ↦ subst HadNoRoom runs.0 none
+  | inr over ↦ subst HadNoRoom over.0 none
+]
 
 -- no silent collection comes without a reply
 silent_none : (every : ℕ) → silent_in every 0 ≡ 0

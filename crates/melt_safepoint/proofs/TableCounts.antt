@@ -18,7 +18,7 @@ use Rattle.melt_core.specs.declared.answer.Refusal.TheVariants as refusal
 use Rattle.melt_safepoint.specs.declared.thread.ThreadState.{ThreadState}
 use Rattle.melt_safepoint.specs.declared.thread.Mode.{Mode}
 use Rattle.melt_safepoint.specs.Counts.{CountsCollections}
-use Rattle.melt_safepoint.specs.Run.{is_collect, silent_in}
+use Rattle.melt_safepoint.specs.Asked.{is_collect, silent_in}
 use Rattle.melt_safepoint.specs.Threads.{DueBy, replies_of, TakesReply, left}
 use Rattle.melt_safepoint.specs.Modes.{IsEnded, owes, mode_for, lost}
 use Rattle.melt_safepoint.proofs.Cuts.{replies_here}

@@ -28,6 +28,7 @@ use Rattle.melt_core.specs.Views.{View, values_of, call_of, IsQuiet, Standing, s
 use Rattle.melt_core.proofs.Disks.{stands_untold}
 use Rattle.melt_core.specs.declared.answer.Pause.{Pause}
 use Rattle.melt_core.specs.declared.answer.Pause.TheVariants as pause
+use Rattle.melt_core.specs.declared.answer.Refusal.{Refusal}
 use Rattle.melt_core.specs.declared.answer.Refusal.TheVariants as refusal
 use Rattle.melt_core.specs.Advances.{KeepsOthers, Pauses}
 use Rattle.melt_safepoint.specs.declared.thread.ThreadState.{ThreadState}
@@ -37,9 +38,10 @@ use Rattle.melt_safepoint.specs.Cuts.{IsDue}
 use Rattle.melt_safepoint.specs.Run.{LoadsNext}
 use Rattle.melt_safepoint.specs.Threads.{DueBy, with_first, left, replies_of, to_reply, Later, TakesReply, AllWait}
 use Rattle.melt_safepoint.specs.Threads.{most_forwards}
-use Rattle.melt_safepoint.specs.Modes.{owes_silent, mode_for, MayGo, IsEnded, FitsMode}
-use Rattle.melt_safepoint.specs.Endings.{EndsSo, HaveCuts}
-use Rattle.melt_safepoint.proofs.Cuts.{replies_here, HaveCuts_later, first_left}
+use Rattle.melt_safepoint.specs.Modes.{owes_silent, mode_for, MayGo, HadNoRoom, IsEnded, FitsMode}
+use Rattle.melt_safepoint.specs.Endings.{EndsSo, HaveMoments}
+use Rattle.melt_safepoint.proofs.Cuts.{replies_here, first_left}
+use Rattle.melt_safepoint.proofs.InOrder.{HaveMoments_later, none_set}
 use Rattle.melt_safepoint.proofs.Threads.{get_set_same, get_set_other, set_got, drop_next, take_next, replies_other}
 use Rattle.melt_safepoint.proofs.Threads.{replies_same, later_set, to_reply_set, to_reply_one}
 use Rattle.melt_safepoint.proofs.Modes.{ends_later, ends_open, paused_cases, lost_ends, ended_fits, refused_owes}
@@ -154,6 +156,7 @@ Table_moves {told} {script} {config} {v} {w} {states} {t} {s} {after} table at r
       threads = others.threads ∙ table.threads;
       globals = others.globals ∙ table.globals;
       words = others.words ∙ table.words;
+      forward_words = others.forwards ∙ table.forward_words;
       forwards = subst (λ (n : ℕ). n ≤ most_forwards) (sym others.forwards) table.forwards;
       some_forward = subst (λ (n : ℕ). 1 ≤ n) (sym others.forwards) table.some_forward;
       each = λ u x is. elim (cases_eq u t) [
@@ -186,15 +189,16 @@ Table_moves {told} {script} {config} {v} {w} {states} {t} {s} {after} table at r
       few = let e : length v.log + to_reply states ≤ 8388608 = table.few in omega (arith, e, to_come, fits, one);
     }
 
--- and the moments of collections stay so
-pub cuts_moves : {told : Bool} {script : Script} {config : Config} {v w : View} {states : List ThreadState} {t : ℕ}
+-- and the moments of the run stay so
+pub moments_moves : {told : Bool} {script : Script} {config : Config} {v w : View} {states : List ThreadState} {t : ℕ}
     {s after : ThreadState} (journal : List Journal) → slice_get states t ≡ Some s → (IsEnded s.mode → ⊥)
-    → Moves told script config v w states t s after → HaveCuts script v.log states config journal
-    → HaveCuts script w.log (set states t after) config journal
-cuts_moves {script} {config} {v} {states} {t} {s} {after} journal at runs m have =
+    → Moves told script config v w states t s after → (HadNoRoom after.mode → ⊥)
+    → HaveMoments script v.log states config journal → HaveMoments script w.log (set states t after) config journal
+moments_moves {script} {config} {v} {states} {t} {s} {after} journal at runs m room have =
     let more = with_more v.log t m.act in
-    subst (λ (h : List Entry). HaveCuts script h (set states t after) config journal) (sym (m.grown ∙ more.1))
-    (HaveCuts_later script v.log more.0 config journal (later_set states t s after m.extra at runs m.replies) have)
+    subst (λ (h : List Entry). HaveMoments script h (set states t after) config journal) (sym (m.grown ∙ more.1))
+    (HaveMoments_later script v.log more.0 config journal (later_set states t s after m.extra at runs m.replies)
+    (none_set states t s after at room) have)
 
 -- a thread that got no reply
 pub same_moves : {told : Bool} {script : Script} (config : Config) (v : View) {w : View} (states : List ThreadState)
@@ -517,14 +521,62 @@ pub Table_step : {told : Bool} {script : Script} {config : Config} {disk : OnDis
 Table_step within table at runs step due =
     Table_moves table at runs step.stands step.others (step_moves within table at runs step due)
 
--- and the moments of collections stay so
-pub cuts_step : {told : Bool} {script : Script} {config : Config} {disk : OnDisk} {v w : View}
+-- a thread that gets a reply does not end for want of room
+pub told_room : {s after : ThreadState} {reply : Reply} → TakesReply s after reply → HadNoRoom after.mode → ⊥
+told_room {s} {after} takes none =
+    elim takes.fits [
+      | inl runs ↦ subst HadNoRoom runs.0 none
+      | inr rest ↦ elim rest [
+        | inl due ↦ subst HadNoRoom due none
+        | inr ended ↦ subst HadNoRoom ended.0 none
+      ]
+    ]
+
+-- nor does one whose call is refused
+refused_room : (r : Refusal) → HadNoRoom (mode_for r) → ⊥
+refused_room (refusal.Pause pause.Asked) none = none
+refused_room (refusal.Pause (pause.Space need)) none = none
+refused_room (refusal.Pause pause.Forward) none = none
+refused_room refusal.DiskFault none = none
+refused_room (refusal.Damaged damaged) none = none
+
+-- nor one that waits for a collection
+waits_room : {v w : View} {t : ℕ} {s after : ThreadState} {mode : Mode} → ThreadWaits v w t s after mode
+    → HadNoRoom after.mode → ⊥
+waits_room {mode} waits none =
+    let here : HadNoRoom mode = subst (λ (x : ThreadState). HadNoRoom x.mode) waits.only none in
+    elim waits.before [
+      | inl own ↦ subst HadNoRoom own.2 here
+      | inr due ↦ subst HadNoRoom due.1 here
+    ]
+
+-- so no event ends a thread for want of room
+step_room : {told : Bool} {disk : OnDisk} {v w : View} {t : ℕ} {s after : ThreadState} → (IsEnded s.mode → ⊥)
+    → ThreadStep told disk v w t s after → HadNoRoom after.mode → ⊥
+step_room {s} {after} runs step none =
+    elim step.what [
+      | inl waits ↦ waits_room waits.1 none
+      | inr rest ↦ elim rest [
+        | inl goes ↦ subst HadNoRoom goes.running (subst (λ (x : ThreadState). HadNoRoom x.mode) goes.same none)
+        | inr rest ↦ elim rest [
+          | inl refused ↦ refused_room (refusal.Pause refused.cause)
+              (subst (λ (x : ThreadState). HadNoRoom x.mode) refused.only none)
+          | inr rest ↦ elim rest [
+            | inl lost ↦ refused_room lost.refusal (subst (λ (x : ThreadState). HadNoRoom x.mode) lost.only none)
+            | inr got ↦ told_room got.takes none
+          ]
+        ]
+      ]
+    ]
+
+-- and the moments of the run stay so
+pub moments_step : {told : Bool} {script : Script} {config : Config} {disk : OnDisk} {v w : View}
     {states : List ThreadState} {t : ℕ} {s after : ThreadState} (journal : List Journal) → disk.end ≤ config.disk
     → TableStands told script config disk v states → slice_get states t ≡ Some s → (IsEnded s.mode → ⊥)
-    → ThreadStep told disk v w t s after → DueBy config.every s after → HaveCuts script v.log states config journal
-    → HaveCuts script w.log (set states t after) config journal
-cuts_step journal within table at runs step due have =
-    cuts_moves journal at runs (step_moves within table at runs step due) have
+    → ThreadStep told disk v w t s after → DueBy config.every s after → HaveMoments script v.log states config journal
+    → HaveMoments script w.log (set states t after) config journal
+moments_step journal within table at runs step due have =
+    moments_moves journal at runs (step_moves within table at runs step due) (step_room runs step) have
 
 -- what an event needs
 pub table_ready : {script : Script} {config : Config} {disk : OnDisk} {v : View} {states : List ThreadState} (t : ℕ)
@@ -591,6 +643,7 @@ Table_renewed {told} {script} {config} {v} {w} {states} table renewed = record {
   threads = renewed.threads ∙ table.threads;
   globals = renewed.globals ∙ table.globals;
   words = renewed.words ∙ table.words;
+  forward_words = renewed.forwards ∙ table.forward_words;
   forwards = subst (λ (n : ℕ). n ≤ most_forwards) (sym renewed.forwards) table.forwards;
   some_forward = subst (λ (n : ℕ). 1 ≤ n) (sym renewed.forwards) table.some_forward;
   each = λ t s at.
@@ -622,6 +675,7 @@ Table_untold told script config disk v states table = record {
   threads = table.threads;
   globals = table.globals;
   words = table.words;
+  forward_words = table.forward_words;
   forwards = table.forwards;
   some_forward = table.some_forward;
   each = λ t s at.

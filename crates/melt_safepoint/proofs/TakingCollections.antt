@@ -24,11 +24,11 @@ use Rattle.melt_safepoint.specs.Journals.{IsTight, Planned}
 use Rattle.melt_safepoint.specs.Shown.{Shown}
 use Rattle.melt_safepoint.specs.Threads.{DueBy, GoesOn, TakesReply, with_first}
 use Rattle.melt_safepoint.specs.Modes.{FitsMode, ForCollection, IsEnded, MayGo, owes, owes_silent}
-use Rattle.melt_safepoint.specs.Endings.{HaveCuts}
+use Rattle.melt_safepoint.specs.Endings.{HaveMoments}
 use Rattle.melt_safepoint.proofs.Counting.{Adds, Spare, adds_silent, counts_taken, open_over}
 use Rattle.melt_safepoint.proofs.Journals.{may_owe}
-use Rattle.melt_safepoint.proofs.Modes.{cuts_mode}
-use Rattle.melt_safepoint.proofs.Collections.{cuts_reply, goes_on_mode, TakesCollection, waits_cases, own_open, own_one}
+use Rattle.melt_safepoint.proofs.Modes.{moments_mode}
+use Rattle.melt_safepoint.proofs.Collections.{moments_reply, goes_on_mode, TakesCollection, waits_cases, own_open, own_one}
 use Rattle.melt_safepoint.proofs.Collections.{own_none}
 use Rattle.melt_safepoint.specs.declared.collector.Collector.{Collector}
 use Rattle.melt_safepoint.specs.Rows.{CollectorStands, KeepsRun, MakesCollection, MakesFor, RunStands, StandsBut, Row}
@@ -40,7 +40,7 @@ use Rattle.melt_safepoint.proofs.Collected.{collected_over, collected_table, jus
 use Rattle.melt_safepoint.proofs.Collected.{stands_collected}
 use Rattle.melt_safepoint.proofs.TableModes.{Table_gone, Table_runs, dropped_keeps, ends_done, nothing_keeps}
 use Rattle.melt_safepoint.proofs.TableModes.{drop_cases}
-use Rattle.melt_safepoint.proofs.Tables.{Table_step, Table_untold, table_ready}
+use Rattle.melt_safepoint.proofs.Tables.{Table_step, Table_untold, table_ready, told_room}
 use Rattle.melt_safepoint.proofs.WordsMade.{made_same}
 
 -- An epoch is as before but for what registers hold.
@@ -145,10 +145,10 @@ HasSpare script config run = Spare script config run.states (length run.collecto
 set_stands : {told : Bool} {script : Script} {config : Config} {shown : Shown} {mid new : Row} {t : ℕ}
     {after : ThreadState} → (stands : StandsBut 1 told script config shown mid) → SetsState mid new t after
     → TableStands told script config stands.disk new.view (set mid.states t after)
-    → (told ≡ true → HaveCuts script mid.view.log (set mid.states t after) config mid.collector.journal.items)
+    → (told ≡ true → HaveMoments script mid.view.log (set mid.states t after) config mid.collector.journal.items)
     → HasSpare script config mid → Adds script config mid.states (set mid.states t after) 1 0
     → RunStands told script config shown new
-set_stands {told} {script} {config} {shown} {mid} {new} {t} {after} stands sets table cuts spare adds =
+set_stands {told} {script} {config} {shown} {mid} {new} {t} {after} stands sets table moments spare adds =
     let states : List ThreadState = set mid.states t after in
     let counts : CountsCollections script config 0 states (length mid.collector.journal.items) =
     counts_taken script config mid.states states (length mid.collector.journal.items) spare adds in
@@ -164,10 +164,10 @@ set_stands {told} {script} {config} {shown} {mid} {new} {t} {after} stands sets 
       every = sets.every ∙ stands.every;
       told_is = sets.told ∙ stands.told_is;
       collector = subst (CollectorStands config shown) (sym sets.collector) stands.collector;
-      cuts = λ is.
-          subst (λ (xs : List ThreadState). HaveCuts script new.view.log xs config journal) (sym sets.states)
-          (subst (λ (h : List Entry). HaveCuts script h states config journal) (sym sets.epoch.log)
-          (subst (HaveCuts script mid.view.log states config) same (cuts is)));
+      moments = λ is.
+          subst (λ (xs : List ThreadState). HaveMoments script new.view.log xs config journal) (sym sets.states)
+          (subst (λ (h : List Entry). HaveMoments script h states config journal) (sym sets.epoch.log)
+          (subst (HaveMoments script mid.view.log states config) same (moments is)));
       made = λ is.
           subst (MadeSoFar config new.view) same
           (made_same (config.heap * length mid.collector.journal.items) mid.view new.view
@@ -197,8 +197,8 @@ Run_answered {told} {script} {config} {mid} {new} {t} {s} {after} stands spare a
     let within : stands.disk.end ≤ config.disk =
     subst (λ (n : ℕ). n ≤ config.disk) (sym stands.under.ends) stands.collector.within in
     set_stands stands sets (Table_step within stands.table at goes step by)
-    (λ is. cuts_reply v.log states t after (reply.Done ∷ []) mid.collector.journal.items at goes takes.replies
-    (stands.cuts is)) spare (record { all = adds.all; asked = adds.asked; pays = omega (arith, adds.pays) })
+    (λ is. moments_reply v.log states t after (reply.Done ∷ []) mid.collector.journal.items at goes takes.replies
+    (told_room takes) (stands.moments is)) spare (record { all = adds.all; asked = adds.asked; pays = omega (arith, adds.pays) })
 
 -- all threads stand where one goes on
 Table_goes_on : {told : Bool} {script : Script} {config : Config} {disk : OnDisk} {v : View} (w : View)
@@ -230,8 +230,8 @@ Run_goes_on {script} {config} {mid} {new} {t} {s} {after} stands spare at mode o
     let by = goes_on_mode s after on in
     let one : owes s.mode ≡ owes by.0 + 1 = let had : owes s.mode ≡ 1 = ap owes mode in omega (arith, had, by.2) in
     set_stands stands sets (Table_goes_on new.view t after stands.table at goes (stands.quiet t) on drops)
-    (λ is. subst (λ (x : ThreadState). HaveCuts script v.log (set states t x) config mid.collector.journal.items)
-    (sym by.1) (cuts_mode config v.log states t by.0 mid.collector.journal.items at goes (stands.cuts is))) spare
+    (λ is. subst (λ (x : ThreadState). HaveMoments script v.log (set states t x) config mid.collector.journal.items)
+    (sym by.1) (moments_mode config v.log states t by.0 mid.collector.journal.items at goes by.4 (stands.moments is))) spare
     (subst (λ (x : ThreadState). Adds script config states (set states t x) 1 0) (sym by.1)
     (adds_silent script config states t s by.0 at stands.table.count one (open_over s.mode goes)))
 

@@ -12,18 +12,19 @@ use Rattle.melt_scion.specs.Heaps.{OnDisk}
 use Rattle.melt_scion.specs.declared.heap.Heap.{Heap}
 use Rattle.melt_safepoint.specs.Ended.{EndedStands, EndsBy}
 use Rattle.melt_safepoint.specs.Run.{HasRun, IsLeft, IsStepReport, HasLeft, MayEnd}
+use Rattle.melt_safepoint.specs.Cuts.{Moment}
 use Rattle.melt_safepoint.specs.Shown.{Shown, Underlies}
 use Rattle.melt_safepoint.specs.declared.ending.Ended.{Ended}
 use Rattle.melt_safepoint.proofs.Tables.{Table_untold}
 
 -- why a thread may end
-end_untold : (script : Script) (config : Config) (report : Report) (t : ℕ) (e : ThreadEnd)
-    → MayEnd true script config report t e → MayEnd false script config report t e
-end_untold script config report t end.Done may = may
-end_untold script config report t (end.OutOfHeap held_words need) may = λ (is : false ≡ true). absurd (cc)
-end_untold script config report t end.DiskFault may = may
-end_untold script config report t (end.Damaged home at word) may = absurd (may.0 refl)
-end_untold script config report t end.Halted may = may
+end_untold : (script : Script) (config : Config) (moments : List Moment) (report : Report) (t : ℕ) (e : ThreadEnd)
+    → MayEnd true script config moments report t e → MayEnd false script config moments report t e
+end_untold script config moments report t end.Done may = may
+end_untold script config moments report t (end.OutOfHeap held_words need) may = λ (is : false ≡ true). absurd (cc)
+end_untold script config moments report t end.DiskFault may = may
+end_untold script config moments report t (end.Damaged home at word) may = absurd (may.0 refl)
+end_untold script config moments report t end.Halted may = may
 
 -- what is reported
 report_untold : {script : Script} {config : Config} {report : Report} → IsStepReport true script config report
@@ -31,10 +32,12 @@ report_untold : {script : Script} {config : Config} {report : Report} → IsStep
 report_untold {script} {config} {report} is = record {
   history = λ (told : false ≡ true). absurd (cc);
   threads = is.threads;
-  ends = λ t r at. end_untold script config report t r.end (is.ends t r at);
+  ends = λ t r at. end_untold script config is.moments report t r.end (is.ends t r at);
   halt = is.halt;
   journal = is.journal;
-  cuts = λ (told : false ≡ true). absurd (cc);
+  moments = is.moments;
+  are_moments = λ (told : false ≡ true). absurd (cc);
+  lacked = λ (told : false ≡ true). absurd (cc);
   collected = is.collected;
   made = λ (told : false ≡ true). absurd (cc);
   asked = is.asked;
@@ -47,6 +50,7 @@ left_untold : {script : Script} {config : Config} {shown : Shown} {report : Repo
 left_untold {script} {config} {shown} {report} {heap} is = record {
   globals = is.globals;
   words = is.words;
+  forward_words = is.forward_words;
   placed = λ (told : false ≡ true). absurd (cc);
 }
 
@@ -92,7 +96,7 @@ ended_untold {told} {script} {config} {shown} {ended} stands = record {
   v = stands.v;
   states = stands.states;
   table = Table_untold told script config stands.disk stands.v stands.states stands.table;
-  cuts = λ (is : false ≡ true). absurd (cc);
+  moments = λ (is : false ≡ true). absurd (cc);
   journal = stands.journal;
   made = λ (is : false ≡ true). absurd (cc);
   unpaid = stands.unpaid;

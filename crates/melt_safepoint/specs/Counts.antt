@@ -5,7 +5,7 @@ use Rattle.melt_trace.specs.Script.{Script}
 use Rattle.melt_safepoint.specs.declared.thread.Mode.{Mode}
 use Rattle.melt_safepoint.specs.declared.thread.Mode.TheVariants.{Ended}
 use Rattle.melt_safepoint.specs.declared.thread.ThreadState.{ThreadState}
-use Rattle.melt_safepoint.specs.Run.{collects, collections}
+use Rattle.melt_safepoint.specs.Asked.{collects, collections}
 use Rattle.melt_safepoint.specs.Threads.{owing, replies_of}
 
 -- how many threads have ended

@@ -1,6 +1,8 @@
 -- Moments of a run: what stood in its history, and what its threads held.
-use Rattle.std.specs.Prelude.{◌≡◌, ◌≢◌, ℕ, suc, ◌+◌, ◌%◌, ◌<◌, ◌≤◌, ◌⊎◌, Bool, true, false, if◌then◌else◌, List, length}
+use Rattle.std.specs.Prelude.{◌≡◌, ◌≢◌, ℕ, suc, ◌+◌, ◌*◌, ◌%◌, ◌<◌, ◌≤◌, ◌⊎◌, Bool, true, false, if◌then◌else◌, List}
+use Rattle.std.specs.Prelude.{length}
 use Rattle.std.specs.Prelude.{take, slice_get, Some}
+use Rattle.std.specs.List.{count_by}
 use Rattle.melt_model.specs.Alive.{Alive, Held, words_of, CostsSum}
 use Rattle.melt_model.specs.Thread.{Transcript, registers_after, value_in}
 use Rattle.melt_model.specs.declared.config.Config.{Config}
@@ -12,6 +14,7 @@ use Rattle.melt_model.specs.declared.operations.Op.TheVariants.{Collect}
 use Rattle.melt_model.specs.declared.operations.Reply.{Reply}
 use Rattle.melt_model.specs.declared.reports.Journal.{Journal}
 use Rattle.melt_trace.specs.Script.{Script, operations}
+use Rattle.melt_safepoint.specs.Asked.{collects, collections, total}
 use Rattle.melt_safepoint.specs.Needs.{NeedsWords}
 
 -- A moment of a run: how many entries the history had then, how many replies each thread had got, and which threads
@@ -80,12 +83,11 @@ pub record IsCollectedAt (script : Script) (log : List Entry) (entry : Journal) 
 abbrev pub EndsWithCollect : List Op → Type 0
 EndsWithCollect ops = (k : ℕ) × (length ops ≡ suc k) × (slice_get ops k ≡ Some Collect)
 
--- At some moment the next operation of the thread needs more words than the heap has beside those of the objects that
+-- At the moment the next operation of the thread needs more words than the heap has beside those of the objects that
 -- registers hold. All silent collections were made by then, but for those behind a `collect` that was answered at the
 -- same safepoint.
-pub record LacksRoom (script : Script) (log : List Entry) (replies : ℕ → List Reply) (config : Config)
+pub record LacksRoom (script : Script) (log : List Entry) (replies : ℕ → List Reply) (config : Config) (cut : Cut)
     (t held_words need : ℕ) : Type 0 where
-  pub cut : Cut
   pub is_cut : IsCutAt script log replies config t (length (replies t)) cut
   pub over : (u : ℕ) → cut.replies u ≡ length (operations script u)
       → (cut.ended u ≡ true) ⊎ (IsDue config (length (operations script u)) × EndsWithCollect (operations script u))
@@ -94,3 +96,77 @@ pub record LacksRoom (script : Script) (log : List Entry) (replies : ℕ → Lis
   pub needed : NeedsWords (history_at log cut) (registers_at script log cut) t op need
   pub holds : HoldsWords script log cut held_words
   pub above : config.heap < held_words + need
+
+-- ---- the moments of a run, in its order
+
+-- What happened at a moment: a collection, or the end of a thread whose operation needed so many words, where those of
+-- the objects that registers held were so many.
+pub data Occasion : Type 0 where
+  collection : Occasion
+  no_room : (thread held_words need : ℕ) → Occasion
+
+pub record Moment : Type 0 where
+  pub cut : Cut
+  pub of : Occasion
+
+abbrev pub is_collection : Occasion → Bool
+is_collection collection = true
+is_collection (no_room t held_words need) = false
+
+-- how many of these are moments of collections
+abbrev pub collections_among : List Moment → ℕ
+collections_among moments = count_by (λ (m : Moment). is_collection m.of) moments
+
+-- From one moment to another one entries and replies do not get fewer, and a thread that had ended has ended, with the
+-- replies that it had.
+pub record NotAfter (one other : Cut) : Type 0 where
+  pub entries : one.entries ≤ other.entries
+  pub replies : (t : ℕ) → one.replies t ≤ other.replies t
+  pub ended : (t : ℕ) → one.ended t ≡ true → (other.ended t ≡ true) × (other.replies t ≡ one.replies t)
+
+-- the replies of a thread at the moment
+abbrev pub replies_at : (ℕ → List Reply) → Cut → ℕ → List Reply
+replies_at replies cut t = take (cut.replies t) (replies t)
+
+-- how many replies the first n threads had at the moment, and how many of these had not ended
+abbrev pub replies_by : Cut → ℕ → ℕ
+replies_by cut n = total cut.replies n
+
+abbrev pub open_by : Cut → ℕ → ℕ
+open_by cut n = total (λ t. if cut.ended t then 0 else 1) n
+
+-- So many collections had been made at the moment: no fewer than `collect`s had been answered; no fewer than these and
+-- the silent ones that had fallen due, but for one of each thread that had not ended; and no more than these and three
+-- for each reply and each thread.
+pub record CountsBy (script : Script) (config : Config) (replies : ℕ → List Reply) (cut : Cut) (made : ℕ)
+    : Type 0 where
+  pub asked : collects script (replies_at replies cut) (length script.programs) ≤ made
+  pub collected : collections script config (replies_at replies cut) (length script.programs)
+      ≤ made + open_by cut (length script.programs)
+  pub bounded : made ≤ collections script config (replies_at replies cut) (length script.programs)
+      + 3 * (replies_by cut (length script.programs) + length script.programs)
+
+-- What is said of a moment, by what happened there, where so many collections had been made before it.
+abbrev pub IsMoment : Script → List Entry → (ℕ → List Reply) → Config → List Journal → ℕ → Cut → Occasion → Type 0
+IsMoment script log replies config journal made cut collection = IsCut script log replies config cut
+    × ((entry : Journal) × (slice_get journal made ≡ Some entry) × IsCollectedAt script log entry cut)
+IsMoment script log replies config journal made cut (no_room t held_words need) =
+    LacksRoom script log replies config cut t held_words need
+
+-- such a moment is one of these
+abbrev pub IsAmong : List Moment → Occasion → Type 0
+IsAmong moments of = (i : ℕ) × ((m : Moment) × (slice_get moments i ≡ Some m) × (m.of ≡ of))
+
+-- The moments of a run, in its order: that of each collection, one after the other, and those at which threads ended
+-- for want of room. At all later ones such a thread has ended.
+pub record AreMoments (script : Script) (log : List Entry) (replies : ℕ → List Reply) (config : Config)
+    (journal : List Journal) (moments : List Moment) : Type 0 where
+  pub each : (i : ℕ) (m : Moment) → slice_get moments i ≡ Some m
+      → IsMoment script log replies config journal (collections_among (take i moments)) m.cut m.of
+  pub counts : (i : ℕ) (m : Moment) → slice_get moments i ≡ Some m
+      → CountsBy script config replies m.cut (collections_among (take i moments))
+  pub order : (i j : ℕ) (m n : Moment) → i < j → slice_get moments i ≡ Some m → slice_get moments j ≡ Some n
+      → NotAfter m.cut n.cut
+  pub gone : (i j : ℕ) (m n : Moment) (t held_words need : ℕ) → i < j → slice_get moments i ≡ Some m
+      → m.of ≡ no_room t held_words need → slice_get moments j ≡ Some n → n.cut.ended t ≡ true
+  pub all : collections_among moments ≡ length journal

@@ -15,7 +15,7 @@ use Rattle.melt_safepoint.specs.Journals.{IsJournalOf, MayMove, before, end_of}
 use Rattle.melt_safepoint.specs.Counts.{CountsCollections}
 use Rattle.melt_safepoint.specs.Made.{MakesWithin}
 use Rattle.melt_safepoint.specs.Shown.{Shown, Underlies}
-use Rattle.melt_safepoint.specs.Endings.{HaveCuts}
+use Rattle.melt_safepoint.specs.Endings.{HaveMoments}
 use Rattle.melt_safepoint.specs.Tables.{TableStands}
 use Rattle.melt_safepoint.specs.Threads.{AreHalted, AllEnded}
 use Rattle.melt_safepoint.specs.declared.ending.Ended.{Ended}
@@ -53,7 +53,7 @@ pub record EndedStands (told : Bool) (script : Script) (config : Config) (shown 
   pub v : View
   pub states : List ThreadState
   pub table : TableStands told script config disk v states
-  pub cuts : told ≡ true → HaveCuts script v.log states config ended.journal.items
+  pub moments : told ≡ true → HaveMoments script v.log states config ended.journal.items
   pub journal : IsJournalOf config ended.journal.items
   pub made : told ≡ true → MakesWithin config v.log ended.journal.items
   pub unpaid : ℕ

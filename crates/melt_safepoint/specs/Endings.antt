@@ -1,5 +1,5 @@
 -- Why the threads of a run have ended, while it goes on, and at which moments its collections were made.
-use Rattle.std.specs.Prelude.{◌≡◌, ℕ, ◌≤◌, Bool, true, List, length, slice_get, All, Some}
+use Rattle.std.specs.Prelude.{◌≡◌, ℕ, zero, suc, ◌≤◌, Bool, true, false, List, [], ◌∷◌, length, slice_get, Some}
 use Rattle.melt_model.specs.declared.config.Config.{Config}
 use Rattle.melt_model.specs.declared.history.Entry.{Entry}
 use Rattle.melt_model.specs.declared.reports.Journal.{Journal}
@@ -11,38 +11,46 @@ use Rattle.melt_core.specs.declared.answer.Refusal.TheVariants as refusal
 use Rattle.melt_safepoint.specs.declared.thread.Mode.{Mode}
 use Rattle.melt_safepoint.specs.declared.thread.Mode.TheVariants.{Ended}
 use Rattle.melt_safepoint.specs.declared.thread.ThreadState.{ThreadState}
-use Rattle.melt_safepoint.specs.Cuts.{Cut, IsCut, IsCollectedAt, LacksRoom}
+use Rattle.melt_safepoint.specs.Cuts.{Occasion, AreMoments, Cut, IsAmong, Moment, NotAfter}
 use Rattle.melt_safepoint.specs.Run.{LoadsNext, WasRead}
 use Rattle.melt_safepoint.specs.Modes.{IsEnded}
 use Rattle.melt_safepoint.specs.Threads.{replies_of}
+
+-- whether a thread has ended; and so of one of the run, where those that it lacks have
+abbrev pub has_gone : Mode → Bool
+has_gone (Ended e) = true
+has_gone mode = false
+
+abbrev pub gone_in : List ThreadState → ℕ → Bool
+gone_in [] u = true
+gone_in (s ∷ states) zero = has_gone s.mode
+gone_in (s ∷ states) (suc u) = gone_in states u
+
+-- the moment at which the run is
+abbrev pub now : List Entry → List ThreadState → Cut
+now log states = record { entries = length log; replies = λ u. length (replies_of states u); ended = gone_in states }
 
 -- the threads that had ended at the moment have ended
 abbrev pub GoneIn : List ThreadState → Cut → Type 0
 GoneIn states cut = (u : ℕ) (s : ThreadState) → slice_get states u ≡ Some s → cut.ended u ≡ true → IsEnded s.mode
 
--- as in the report of a run, while it goes on
-abbrev pub LacksNow : Script → List Entry → List ThreadState → Config → ℕ → ℕ → ℕ → Type 0
-LacksNow script log states config t held_words need =
-    (x : LacksRoom script log (replies_of states) config t held_words need) × GoneIn states x.cut
+-- The moments of a run so far, none of which is after the one at which it is. There is one for each thread that has ended
+-- for want of room, and for no other.
+pub record HaveMoments (script : Script) (log : List Entry) (states : List ThreadState) (config : Config)
+    (journal : List Journal) : Type 0 where
+  pub moments : List Moment
+  pub are : AreMoments script log (replies_of states) config journal moments
+  pub past : (i : ℕ) (m : Moment) → slice_get moments i ≡ Some m → NotAfter m.cut (now log states)
+  pub gone : (t held_words need : ℕ) (s : ThreadState) → slice_get states t ≡ Some s
+      → s.mode ≡ Ended (end.OutOfHeap held_words need) → IsAmong moments (Occasion.no_room t held_words need)
+  pub real : (t held_words need : ℕ) → IsAmong moments (Occasion.no_room t held_words need)
+      → (s : ThreadState) × (slice_get states t ≡ Some s) × (s.mode ≡ Ended (end.OutOfHeap held_words need))
 
--- the moment of a collection, while a run goes on
-pub record HasCut (script : Script) (log : List Entry) (states : List ThreadState) (config : Config)
-    (entry : Journal) : Type 0 where
-  pub cut : Cut
-  pub is_cut : IsCut script log (replies_of states) config cut
-  pub collected : IsCollectedAt script log entry cut
-  pub gone : GoneIn states cut
-
--- each collection so far was made at some moment
-abbrev pub HaveCuts : Script → List Entry → List ThreadState → Config → List Journal → Type 0
-HaveCuts script log states config journal = All (HasCut script log states config) journal
-
--- why a thread may have ended
+-- Why a thread may have ended. For one that had no room the moments of the run tell.
 abbrev pub EndsSo : Bool → Script → List Entry → List ThreadState → Config → ℕ → Mode → Type 0
 EndsSo told script log states config t (Ended end.Done) =
     length (replies_of states t) ≡ length (operations script t)
-EndsSo told script log states config t (Ended (end.OutOfHeap held_words need)) =
-    told ≡ true → LacksNow script log states config t held_words need
+EndsSo told script log states config t (Ended (end.OutOfHeap held_words need)) = Unit {0}
 EndsSo told script log states config t (Ended end.DiskFault) =
     LoadsNext script t (length (replies_of states t))
 EndsSo told script log states config t (Ended (end.Damaged home at word)) =

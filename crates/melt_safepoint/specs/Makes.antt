@@ -6,14 +6,14 @@ use Rattle.melt_model.specs.declared.reports.Phase.TheVariants.{Move}
 use Rattle.melt_model.specs.declared.reports.ThreadEnd.TheVariants.{OutOfHeap}
 use Rattle.melt_trace.specs.Script.{Script}
 use Rattle.melt_core.specs.Epochs.{HasDropped}
-use Rattle.melt_safepoint.specs.declared.thread.Mode.TheVariants.{Ended}
+use Rattle.melt_safepoint.specs.declared.thread.Mode.TheVariants.{Ended, Lacking}
 use Rattle.melt_safepoint.specs.declared.thread.ThreadState.{ThreadState}
 use Rattle.melt_safepoint.specs.Epochs.{EndsEpoch, GoesOnFrom}
 use Rattle.melt_safepoint.specs.Journals.{OneMore, Planned}
 use Rattle.melt_safepoint.specs.Passing.{WaitsForRoom, IsLacking, NoneLacks}
 use Rattle.melt_safepoint.specs.Rows.{AwaitsCall, Row, journal_of}
 use Rattle.melt_safepoint.specs.Shown.{Shown}
-use Rattle.melt_safepoint.specs.Threads.{collections_due}
+use Rattle.melt_safepoint.specs.Threads.{NoneBelow, collections_due}
 
 -- A Move was made, whatever was planned, the last of so many that were forced in a row. Behind it the thread awaited
 -- its call, over what was shown then, and an epoch began with that.
@@ -85,10 +85,10 @@ pub record GoesOnBehind (own : List Journal) (new : Row) : Type 0 where
   pub goes : GoesOnFrom shown mid new
 
 -- The collections of a safepoint: one as it was planned for each thread that waits for one of its own, and then those
--- for a thread that waits for room, if there is one. There are no others.
+-- for the lowest thread that waits for room, if there is one. There are no others.
 pub record MakesCollections (told : Bool) (script : Script) (config : Config) (old new : Row) : Type 0 where
   pub own : List Journal
   pub asked : Planned config (collections_due old.states) (journal_of old) own
   pub room : (NoneLacks old.states × GoesOnBehind own new)
-      ⊎ ((t : ℕ) × WaitsForRoom old.states t
+      ⊎ ((t : ℕ) × WaitsForRoom old.states t × NoneBelow (λ mode. mode ≡ Lacking) old.states t
       × MakesForRoom told script config (collections_due old.states) own new t)

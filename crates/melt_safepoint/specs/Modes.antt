@@ -21,6 +21,11 @@ abbrev pub IsEnded : Mode → Type 0
 IsEnded (Ended e) = Unit {0}
 IsEnded mode = ⊥
 
+-- a thread has ended for want of room
+abbrev pub HadNoRoom : Mode → Type 0
+HadNoRoom (Ended (end.OutOfHeap held_words need)) = Unit {0}
+HadNoRoom mode = ⊥
+
 -- What the mode of a thread says of its next operation: one that runs or waits for its call has one, and one that waits
 -- for its own collection has that.
 abbrev pub FitsMode : Mode → Option Op → Type 0

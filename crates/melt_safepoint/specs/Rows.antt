@@ -16,7 +16,7 @@ use Rattle.melt_safepoint.specs.declared.thread.ThreadState.{ThreadState}
 use Rattle.melt_safepoint.specs.Collections.{CollectsCore, AllMarked, MadeSoFar, NoneForwarded}
 use Rattle.melt_safepoint.specs.Counts.{CountsCollections}
 use Rattle.melt_safepoint.specs.Ended.{StopsSo}
-use Rattle.melt_safepoint.specs.Endings.{HaveCuts}
+use Rattle.melt_safepoint.specs.Endings.{HaveMoments}
 use Rattle.melt_safepoint.specs.Journals.{IsJournalOf, IsTight, Planned, before, end_of, next_of}
 use Rattle.melt_safepoint.specs.Lends.{LendsFew, LendsTwice}
 use Rattle.melt_safepoint.specs.Losses.{CountsLosses}
@@ -82,7 +82,7 @@ pub record StandsBut (unpaid : ℕ) (told : Bool) (script : Script) (config : Co
   pub every : run.every ≡ config.every
   pub told_is : run.told ≡ told
   pub collector : CollectorStands config shown run.collector
-  pub cuts : told ≡ true → HaveCuts script run.view.log run.states config run.collector.journal.items
+  pub moments : told ≡ true → HaveMoments script run.view.log run.states config run.collector.journal.items
   pub made : told ≡ true → MadeSoFar config run.view run.collector.journal.items
   pub counts : CountsCollections script config unpaid run.states (length run.collector.journal.items)
 

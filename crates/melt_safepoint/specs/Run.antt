@@ -1,6 +1,6 @@
 -- What the report of a run says of a trace, and which heap is left.
-use Rattle.std.specs.Prelude.{◌≡◌, ℕ, zero, suc, ◌+◌, ◌*◌, ◌-◌, ◌/◌, ◌^◌, ◌<◌, ◌≤◌, ◌⊎◌, Bool, true, false}
-use Rattle.std.specs.Prelude.{if◌then◌else◌, List, [], length, map, sum, All, take, slice_get, Option, None, Some}
+use Rattle.std.specs.Prelude.{◌≡◌, ℕ, ◌+◌, ◌*◌, ◌-◌, ◌^◌, ◌<◌, ◌≤◌, ◌⊎◌, Bool, true, false}
+use Rattle.std.specs.Prelude.{if◌then◌else◌, List, [], length, map, sum, All, slice_get, Option, None, Some}
 use Rattle.std.specs.Prelude.{IsSome}
 use Rattle.std.specs.List.{count_by}
 use Rattle.std.specs.Option.{option_map_or}
@@ -11,11 +11,9 @@ use Rattle.melt_model.specs.declared.history.Entry.{Entry}
 use Rattle.melt_model.specs.declared.history.Value.{Value}
 use Rattle.melt_model.specs.declared.history.Value.TheVariants.{Nil}
 use Rattle.melt_model.specs.declared.operations.Op.{Op}
-use Rattle.melt_model.specs.declared.operations.Op.TheVariants.{Collect}
 use Rattle.melt_model.specs.declared.operations.Reply.{Reply}
 use Rattle.melt_model.specs.declared.reports.Halt.{Halt}
 use Rattle.melt_model.specs.declared.reports.Halt.TheVariants as halt
-use Rattle.melt_model.specs.declared.reports.Journal.{Journal}
 use Rattle.melt_model.specs.declared.reports.ThreadEnd.{ThreadEnd}
 use Rattle.melt_model.specs.declared.reports.ThreadEnd.TheVariants as end
 use Rattle.melt_model.specs.declared.reports.ThreadReport.{ThreadReport}
@@ -35,12 +33,8 @@ use Rattle.melt_safepoint.specs.Journals.{IsJournalOf, MayMove, before, end_of}
 use Rattle.melt_safepoint.specs.Made.{MakesWithin}
 use Rattle.melt_safepoint.specs.Needs.{IsLoad}
 use Rattle.melt_safepoint.specs.Shown.{Shown, Underlies}
-use Rattle.melt_safepoint.specs.Cuts.{LacksRoom, Cut, IsCut, IsCollectedAt}
-
--- whether an operation asks for a collection
-abbrev pub is_collect : Op → Bool
-is_collect Collect = true
-is_collect o = false
+use Rattle.melt_safepoint.specs.Asked.{collects, collections}
+use Rattle.melt_safepoint.specs.Cuts.{Occasion, AreMoments, IsAmong, Moment}
 
 -- The threads' replies are those of one legal history of a heap that never collects, which holds the calls
 -- of each thread once and in order, and no others.
@@ -76,40 +70,16 @@ pub record WasRead (config : Config) (home at word : ℕ) : Type 0 where
   pub words : List ℕ
   pub breaks : Breaks scions end stage words (record { home = home; at = at; word = word })
 
--- Why a thread may end so. Where the disk tells its words, none is damaged; what is said of room is told there alone.
-abbrev pub MayEnd : Bool → Script → Config → Report → ℕ → ThreadEnd → Type 0
-MayEnd told script config report t end.Done = answered report t ≡ length (operations script t)
-MayEnd told script config report t (end.OutOfHeap held_words need) =
-    told ≡ true → LacksRoom script report.history (replies_in report) config t held_words need
-MayEnd told script config report t end.DiskFault = LoadsNext script t (answered report t)
-MayEnd told script config report t (end.Damaged home at word) =
+-- Why a thread may end so, where these are the moments of the run. Where the disk tells its words, none is damaged; what
+-- is said of room is told there alone: that one of these moments is that of the thread.
+abbrev pub MayEnd : Bool → Script → Config → List Moment → Report → ℕ → ThreadEnd → Type 0
+MayEnd told script config moments report t end.Done = answered report t ≡ length (operations script t)
+MayEnd told script config moments report t (end.OutOfHeap held_words need) =
+    told ≡ true → IsAmong moments (Occasion.no_room t held_words need)
+MayEnd told script config moments report t end.DiskFault = LoadsNext script t (answered report t)
+MayEnd told script config moments report t (end.Damaged home at word) =
     (told ≡ true → ⊥) × LoadsNext script t (answered report t) × WasRead config home at word
-MayEnd told script config report t end.Halted = IsSome report.halt
-
--- how many silent collections come with so many replies of a thread: one behind each that is a multiple of the number
-abbrev pub silent_in : (every count : ℕ) → ℕ
-silent_in zero count = 0
-silent_in (suc every) count = count / suc every
-
--- the sum of what the first n threads have
-abbrev pub total : (ℕ → ℕ) → ℕ → ℕ
-total f zero = 0
-total f (suc n) = total f n + f n
-
--- how many `collect`s of a thread were answered, and of the first n threads together
-abbrev pub collects_of : Script → (ℕ → List Reply) → ℕ → ℕ
-collects_of script replies t = count_by is_collect (take (length (replies t)) (operations script t))
-
-abbrev pub collects : Script → (ℕ → List Reply) → ℕ → ℕ
-collects script replies n = total (collects_of script replies) n
-
--- how many collections the replies of a thread brought, its `collect`s and the silent ones, and those of the first n
--- threads together
-abbrev pub collections_of : Script → Config → (ℕ → List Reply) → ℕ → ℕ
-collections_of script config replies t = collects_of script replies t + silent_in config.every (length (replies t))
-
-abbrev pub collections : Script → Config → (ℕ → List Reply) → ℕ → ℕ
-collections script config replies n = total (collections_of script config replies) n
+MayEnd told script config moments report t end.Halted = IsSome report.halt
 
 -- the replies of all threads
 abbrev pub replies_told : Report → ℕ
@@ -131,12 +101,6 @@ is_lost e = false
 abbrev pub lost_in : Report → ℕ
 lost_in report = count_by (λ (r : ThreadReport). is_lost r.end) report.threads
 
--- Each collection was made at some moment.
-abbrev pub HasCuts : Script → Config → Report → Type 0
-HasCuts script config report = (k : ℕ) (entry : Journal) → slice_get report.journal k ≡ Some entry
-    → (cut : Cut) × IsCut script report.history (replies_in report) config cut
-    × IsCollectedAt script report.history entry cut
-
 -- why a run may have been halted: by a disk that was full for a Move, which was planned or forced, or by one that
 -- failed
 abbrev pub MayHalt : Config → Report → Option Halt → Type 0
@@ -153,11 +117,15 @@ MayHalt config report (Some halt.DiskFault) = Unit {0}
 pub record IsStepReport (told : Bool) (script : Script) (config : Config) (report : Report) : Type 0 where
   pub history : told ≡ true → HasHistory script report.history report
   pub threads : length report.threads ≡ length script.programs
+  pub moments : List Moment
   pub ends : (t : ℕ) (r : ThreadReport) → slice_get report.threads t ≡ Some r
-      → MayEnd told script config report t r.end
+      → MayEnd told script config moments report t r.end
   pub halt : MayHalt config report report.halt
   pub journal : IsJournalOf config report.journal
-  pub cuts : told ≡ true → HasCuts script config report
+  pub are_moments : told ≡ true
+      → AreMoments script report.history (replies_in report) config report.journal moments
+  pub lacked : told ≡ true → (t held_words need : ℕ) → IsAmong moments (Occasion.no_room t held_words need)
+      → (r : ThreadReport) × (slice_get report.threads t ≡ Some r) × (r.end ≡ end.OutOfHeap held_words need)
   pub collected : collections script config (replies_in report) (length report.threads)
       ≤ length report.journal + halted_in report
   pub made : told ≡ true → MakesWithin config report.history report.journal
@@ -171,12 +139,13 @@ register_left script report t r =
     if option_map_or (λ (x : ThreadReport). is_halted x.end) (slice_get report.threads t) false
     then value_in (registers_after report.history t (operations script t) (answered report t)) r else Nil
 
--- The heap that is left has the globals of the script and the words of the configuration. Where the run is told, it
+-- The heap that is left has the globals of the script, and the words and forwarding words of the configuration. Where the run is told, it
 -- stands for the history when all threads have ended, over the disk.
 pub record IsLeft (told : Bool) (script : Script) (config : Config) (shown : Shown) (report : Report) (heap : Heap)
     : Type 0 where
   pub globals : length heap.globals ≡ script.globals
   pub words : length heap.space.list ≡ config.heap
+  pub forward_words : length heap.forward ≡ config.forward
   pub placed : told ≡ true → (maps : Maps) × ((disk : OnDisk) × Underlies told shown.end shown.image disk
       × HasMaps heap maps × Placed report.history (λ t r. Nil) maps (state_of heap [] disk))
 

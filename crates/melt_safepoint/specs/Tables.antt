@@ -62,6 +62,7 @@ pub record TableStands (told : Bool) (script : Script) (config : Config) (disk :
   pub threads : length v.held ≡ length script.programs
   pub globals : length v.globals ≡ script.globals
   pub words : length v.space.list ≡ config.heap
+  pub forward_words : length v.forward ≡ config.forward
   pub forwards : length v.forward ≤ most_forwards
   pub some_forward : 1 ≤ length v.forward
   pub each : (t : ℕ) (s : ThreadState) → slice_get states t ≡ Some s → ThreadStands told script v t s

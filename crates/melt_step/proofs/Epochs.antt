@@ -23,7 +23,7 @@ use Rattle.melt_scion.specs.declared.registers.Registers.{Registers}
 use Rattle.melt_core.specs.declared.call.Call.{Call}
 use Rattle.melt_core.specs.Views.{call_in, held_values, registers_in, value, values_of}
 use Rattle.melt_safepoint.specs.Collections.{MadeSoFar, NoneForwarded}
-use Rattle.melt_safepoint.specs.Endings.{HaveCuts}
+use Rattle.melt_safepoint.specs.Endings.{HaveMoments}
 use Rattle.melt_safepoint.specs.Epochs.{EndsEpoch, MayRunEpoch, to_do}
 use Rattle.melt_safepoint.specs.Journals.{IsJournalOf}
 use Rattle.melt_safepoint.specs.Passing.{NoneOwn, WaitsForRoom}
@@ -129,12 +129,12 @@ renews_stands {unpaid} {told} {script} {config} {shown} {old} {new} r stands = r
   every = r.every ∙ stands.every;
   told_is = r.told ∙ stands.told_is;
   collector = subst (CollectorStands config shown) (sym r.collector) stands.collector;
-  cuts = λ is.
-      subst (λ (c : Collector). HaveCuts script new.view.log new.states config c.journal.items) (sym r.collector)
-      (subst (λ (xs : List ThreadState). HaveCuts script new.view.log xs config old.collector.journal.items)
+  moments = λ is.
+      subst (λ (c : Collector). HaveMoments script new.view.log new.states config c.journal.items) (sym r.collector)
+      (subst (λ (xs : List ThreadState). HaveMoments script new.view.log xs config old.collector.journal.items)
       (sym r.states)
-      (subst (λ (h : List Entry). HaveCuts script h old.states config old.collector.journal.items)
-      (sym r.finished.log) (stands.cuts is)));
+      (subst (λ (h : List Entry). HaveMoments script h old.states config old.collector.journal.items)
+      (sym r.finished.log) (stands.moments is)));
   made = λ is.
       subst (λ (c : Collector). MadeSoFar config new.view c.journal.items) (sym r.collector)
       (made_same (config.heap * length old.collector.journal.items) old.view new.view r.finished.names r.finished.log

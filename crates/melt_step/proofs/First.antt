@@ -29,7 +29,7 @@ use Rattle.melt_safepoint.specs.Needs.{NeedsWords}
 use Rattle.melt_safepoint.specs.Shown.{Shown, Underlies}
 use Rattle.melt_safepoint.specs.Threads.{DueBy, OweBehindCollects, jobs_of, left, with_first}
 use Rattle.melt_safepoint.specs.Modes.{FitsMode, IsEnded, jobs, mode_for}
-use Rattle.melt_safepoint.specs.Endings.{HaveCuts}
+use Rattle.melt_safepoint.specs.Endings.{HaveMoments}
 use Rattle.melt_safepoint.proofs.Counting.{Adds, counts_paid}
 use Rattle.melt_safepoint.proofs.Cuts.{held_words_same, needs_same}
 use Rattle.melt_safepoint.proofs.Journals.{before_end}
@@ -47,7 +47,7 @@ use Rattle.melt_step.specs.Made.{MakesInUse}
 use Rattle.melt_safepoint.specs.Tables.{IsReady, TableStands, ThreadLost, ThreadStep, ThreadTold}
 use Rattle.melt_safepoint.specs.declared.collector.Collector.{Collector}
 use Rattle.melt_safepoint.proofs.TableCounts.{adds_got, adds_lost, counts_of}
-use Rattle.melt_safepoint.proofs.Tables.{Table_lacks, Table_step, Table_untold, cuts_step, table_ready}
+use Rattle.melt_safepoint.proofs.Tables.{Table_lacks, Table_step, Table_untold, moments_step, table_ready}
 
 -- what it has next
 pub lacking_next : {told : Bool} {script : Script} {config : Config} {disk : OnDisk} {v : View}
@@ -196,8 +196,8 @@ made_stands {told} {script} {config} {shown} {forced} {old} {new} {t} {lacks} aw
     let fits = lacking_next stands.table m.was in
     let table : TableStands told script config disk w (set states t m.after) =
     Table_step within stands.table m.was.at open_ step due in
-    let cuts : told ≡ true → HaveCuts script w.log (set states t m.after) config old.collector.journal.items = λ tells.
-    cuts_step old.collector.journal.items within stands.table m.was.at open_ step due (stands.cuts tells) in
+    let moments : told ≡ true → HaveMoments script w.log (set states t m.after) config old.collector.journal.items = λ tells.
+    moments_step old.collector.journal.items within stands.table m.was.at open_ step due (stands.moments tells) in
     let adds : Adds script config states (set states t m.after) 0 1 = elim (came none (call_over awaits m)).1 [
       | inl is ↦ adds_lost stands.table m.was.at is
       | inr got ↦ adds_got stands.table m.was.at due open_ got (λ same. fits.1 (got.next ∙ ap Some same))
@@ -211,10 +211,10 @@ made_stands {told} {script} {config} {shown} {forced} {old} {new} {t} {lacks} aw
       every = m.every ∙ stands.every;
       told_is = m.told ∙ stands.told_is;
       collector = subst (CollectorStands config shown) (sym m.collector) stands.collector;
-      cuts = λ tells.
-          subst (λ (c : Collector). HaveCuts script w.log new.states config c.journal.items) (sym m.collector)
-          (subst (λ (xs : List ThreadState). HaveCuts script w.log xs config old.collector.journal.items)
-          (sym m.states) (cuts tells));
+      moments = λ tells.
+          subst (λ (c : Collector). HaveMoments script w.log new.states config c.journal.items) (sym m.collector)
+          (subst (λ (xs : List ThreadState). HaveMoments script w.log xs config old.collector.journal.items)
+          (sym m.states) (moments tells));
       made = call_makes awaits m;
       counts = counts_of script config new (set states t m.after) old.collector m.states m.collector
           (counts_paid script config (suc forced) states (set states t m.after) (length old.collector.journal.items)
@@ -314,12 +314,12 @@ stands_same {unpaid} {told} {script} {config} {shown} {old} {new} stands same ta
       every = same.every ∙ stands.every;
       told_is = same.told ∙ stands.told_is;
       collector = subst (CollectorStands config shown) (sym same.collector) stands.collector;
-      cuts = λ tells.
-          subst (λ (c : Collector). HaveCuts script w.log new.states config c.journal.items) (sym same.collector)
-          (subst (λ (xs : List ThreadState). HaveCuts script w.log xs config old.collector.journal.items)
+      moments = λ tells.
+          subst (λ (c : Collector). HaveMoments script w.log new.states config c.journal.items) (sym same.collector)
+          (subst (λ (xs : List ThreadState). HaveMoments script w.log xs config old.collector.journal.items)
           (sym same.states)
-          (subst (λ (h : List Entry). HaveCuts script h old.states config old.collector.journal.items)
-          (sym same.history) (stands.cuts tells)));
+          (subst (λ (h : List Entry). HaveMoments script h old.states config old.collector.journal.items)
+          (sym same.history) (stands.moments tells)));
       made = made;
       counts = counts_of script config new old.states old.collector same.states same.collector stands.counts;
     }

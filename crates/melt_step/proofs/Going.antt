@@ -10,7 +10,7 @@ use Rattle.melt_core.specs.Views.{View, IsQuiet, Standing}
 use Rattle.melt_safepoint.specs.declared.thread.ThreadState.{ThreadState}
 use Rattle.melt_safepoint.specs.Shown.{Shown, Underlies}
 use Rattle.melt_safepoint.specs.Threads.{DueBy}
-use Rattle.melt_safepoint.specs.Endings.{HaveCuts}
+use Rattle.melt_safepoint.specs.Endings.{HaveMoments}
 use Rattle.melt_safepoint.specs.Modes.{MayGo}
 use Rattle.melt_safepoint.proofs.Modes.{goes_on}
 use Rattle.melt_safepoint.proofs.Counting.{Adds, counts_on}
@@ -21,7 +21,7 @@ use Rattle.melt_safepoint.specs.Collections.{MadeSoFar}
 use Rattle.melt_step.specs.Made.{MakesInUse}
 use Rattle.melt_safepoint.specs.Tables.{TakesTurn, ThreadStep, ThreadTold, TableStands, potential}
 use Rattle.melt_core.proofs.Disks.{stands_untold}
-use Rattle.melt_safepoint.proofs.Tables.{Table_step, Table_untold, cuts_step}
+use Rattle.melt_safepoint.proofs.Tables.{Table_step, Table_untold, moments_step}
 use Rattle.melt_safepoint.proofs.TableCounts.{collections_step, counts_of}
 use Rattle.melt_step.proofs.Potentials.{step_jobs, step_nearer}
 use Rattle.melt_safepoint.specs.Epochs.{MayRunEpoch, RestsWell, RunsEpoch, to_do}
@@ -64,12 +64,12 @@ step_keeps {finish} {image} old new t {s} after at goes turn states due makes ev
       every = every ∙ stands.every;
       told_is = is_told ∙ stands.told_is;
       collector = subst (CollectorStands config shown) (sym collector) stands.collector;
-      cuts = λ is.
-          subst (λ (xs : List ThreadState). HaveCuts script new.view.log xs config new.collector.journal.items)
+      moments = λ is.
+          subst (λ (xs : List ThreadState). HaveMoments script new.view.log xs config new.collector.journal.items)
           (sym states)
-          (subst (λ (c : Collector). HaveCuts script new.view.log (set had t after) config c.journal.items)
+          (subst (λ (c : Collector). HaveMoments script new.view.log (set had t after) config c.journal.items)
           (sym collector)
-          (cuts_step old.collector.journal.items within table at (goes_on s.mode goes) step by (stands.cuts is)));
+          (moments_step old.collector.journal.items within table at (goes_on s.mode goes) step by (stands.moments is)));
       made = λ is.
           subst (λ (c : Collector). MadeSoFar config new.view c.journal.items) (sym collector)
           (makes disk (subst (λ (b : Bool). Underlies b finish image disk) is under)
@@ -139,10 +139,10 @@ again_keeps shown old new n again quiet core collector every words is_told told 
       every = every ∙ stands.every;
       told_is = is_told ∙ stands.told_is;
       collector = subst (CollectorStands config shown) (sym collector) stands.collector;
-      cuts = λ is.
-          subst (λ (v : View). HaveCuts script v.log new.states config new.collector.journal.items) (sym core)
-          (subst (λ (c : Collector). HaveCuts script old.view.log new.states config c.journal.items)
-          (sym collector) (again.cuts script old.view.log config old.collector.journal.items (stands.cuts is)));
+      moments = λ is.
+          subst (λ (v : View). HaveMoments script v.log new.states config new.collector.journal.items) (sym core)
+          (subst (λ (c : Collector). HaveMoments script old.view.log new.states config c.journal.items)
+          (sym collector) (again.moments script old.view.log config old.collector.journal.items (stands.moments is)));
       made = λ is.
           subst (λ (v : View). MadeSoFar config v new.collector.journal.items) (sym core)
           (subst (λ (c : Collector). MadeSoFar config old.view c.journal.items) (sym collector) (stands.made is));
@@ -174,7 +174,7 @@ goes_from {told} {script} {config} {shown} {run} stands = record {
   every = stands.every;
   told_is = stands.told_is;
   collector = stands.collector;
-  cuts = stands.cuts;
+  moments = stands.moments;
   made = stands.made;
   counts = stands.counts;
 }
@@ -192,7 +192,7 @@ stands_from {told} {script} {config} {shown} {run} waits goes = record {
   every = goes.every;
   told_is = goes.told_is;
   collector = goes.collector;
-  cuts = goes.cuts;
+  moments = goes.moments;
   made = goes.made;
   counts = goes.counts;
 }

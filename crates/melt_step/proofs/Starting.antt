@@ -199,6 +199,7 @@ Table_new told {script} config {named} {entries} {asked} image {heap} {rest} {st
       threads = ap length new_rest.held ∙ length-replicate n no_registers;
       globals = ap length new_heap.globals_hold_nothing ∙ length-replicate script.globals 0;
       words = new_heap.space.size;
+      forward_words = forwards;
       forwards = subst (λ (n : ℕ). n ≤ most_forwards) (sym forwards) most;
       some_forward = subst (λ (n : ℕ). 1 ≤ n) (sym forwards) least;
       each = λ t s at. Thread_new told script t at_rest new_rest

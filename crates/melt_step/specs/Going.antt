@@ -6,7 +6,7 @@ use Rattle.melt_scion.specs.Heaps.{OnDisk}
 use Rattle.melt_core.specs.Views.{IsQuiet, View, call_of, view}
 use Rattle.melt_safepoint.specs.Collections.{MadeSoFar}
 use Rattle.melt_safepoint.specs.Counts.{CountsCollections}
-use Rattle.melt_safepoint.specs.Endings.{HaveCuts}
+use Rattle.melt_safepoint.specs.Endings.{HaveMoments}
 use Rattle.melt_safepoint.specs.Epochs.{LacksFirst}
 use Rattle.melt_safepoint.specs.Passing.{CalledAt, IsLacking}
 use Rattle.melt_safepoint.specs.Rows.{AwaitsCall, CollectorStands, Row, RunStands}
@@ -40,7 +40,7 @@ pub record Goes (told : Bool) (script : Script) (config : Config) (shown : Shown
   pub every : run.every ≡ config.every
   pub told_is : run.told ≡ told
   pub collector : CollectorStands config shown run.collector
-  pub cuts : told ≡ true → HaveCuts script run.view.log run.states config run.collector.journal.items
+  pub moments : told ≡ true → HaveMoments script run.view.log run.states config run.collector.journal.items
   pub made : told ≡ true → MadeSoFar config run.view run.collector.journal.items
   pub counts : CountsCollections script config 0 run.states (length run.collector.journal.items)
 

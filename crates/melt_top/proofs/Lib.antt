@@ -1,4 +1,5 @@
 mod Clapping
+mod Completing
 mod Found
 mod Parsing
 mod Sums

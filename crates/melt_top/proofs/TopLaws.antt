@@ -31,6 +31,7 @@ use Rattle.melt_top.specs.declared.status.Status.{Status}
 use Rattle.melt_top.specs.declared.status.Status.TheVariants as status
 use Rattle.melt_top.specs.declared.top.Way.{Way}
 use Rattle.melt_top.specs.declared.top.Way.TheVariants as way
+use Rattle.melt_safepoint.specs.Cuts.{Moment}
 use Rattle.melt_safepoint.specs.Run.{MayEnd, CountsLost, is_lost, lost_in}
 
 -- the bytes that were taken, by their number
@@ -66,7 +67,7 @@ read_failed way run input n few count rose unused is told =
     })
 
 -- more bytes than a trace may have
-long_refused : (bytes : List ℕ) → max_bytes < length bytes → script_of bytes ≡ Err (0, 1)
+pub long_refused : (bytes : List ℕ) → max_bytes < length bytes → script_of bytes ≡ Err (0, 1)
 long_refused bytes long = cond-false (nat_le (length bytes) max_bytes) _ _ (lt-leb (length bytes) max_bytes long)
 
 pub too_long : (way : Way) (run : Run) (input : Change) {disk : DiskChange} {n : ℕ} {due : Status} {output : List ℕ}
@@ -111,7 +112,7 @@ first_so P fault damage full room done false false true d = full
 first_so P fault damage full room done false false false true = room
 first_so P fault damage full room done false false false false = done
 
-report_so : (P : Status → Type 0) → P status.DiskFault → P status.Damaged → P status.DiskFull → P status.OutOfHeap
+pub report_so : (P : Status → Type 0) → P status.DiskFault → P status.Damaged → P status.DiskFull → P status.OutOfHeap
     → P status.Done → (report : Report) → P (status_of report)
 report_so P fault damage full room done report =
     first_so P fault damage full room done (ended is_disk_fault report || halted_by_fault report.halt)
@@ -349,7 +350,7 @@ some_ended test (r ∷ threads) any = elim (cases_Bool (test r.end)) [
 ]
 
 -- and is counted then
-counted_one : (test : ThreadReport → Bool) (threads : List ThreadReport) (t : ℕ) (r : ThreadReport)
+pub counted_one : (test : ThreadReport → Bool) (threads : List ThreadReport) (t : ℕ) (r : ThreadReport)
     → slice_get threads t ≡ Some r → test r ≡ true → 1 ≤ count_by test threads
 counted_one test [] t r at is = absurd (cc)
 counted_one test (x ∷ threads) zero r at is =
@@ -362,7 +363,7 @@ counted_one test (x ∷ threads) (suc t) r at is =
     omega (arith, rest, sum_by-cons f x threads)
 
 -- the count rose where some thread was lost
-rose_lost : (lost before after : ℕ) → 1 ≤ lost → CountsLost lost before after → Rose before after
+pub rose_lost : (lost before after : ℕ) → 1 ≤ lost → CountsLost lost before after → Rose before after
 rose_lost lost before after some (inl counted) = λ below. omega (arith, some, counted, below)
 rose_lost lost before after some (inr full) = λ below. omega (arith, full, below)
 
@@ -371,7 +372,7 @@ halted_so None is = absurd (cc)
 halted_so (Some (halt.DiskFull at need limit)) is = absurd (cc)
 halted_so (Some halt.DiskFault) is = refl
 
-run_fault_rose : (way : Way) (run : Run) (input : Change) (disk : DiskChange) (due : Status) (output : List ℕ)
+pub run_fault_rose : (way : Way) (run : Run) (input : Change) (disk : DiskChange) (due : Status) (output : List ℕ)
     → InputDue way run input disk due output → due ≡ status.DiskFault
     → Rose disk.faults_before disk.faults_after ⊎ Rose disk.read_faults_before disk.read_faults_after
 run_fault_rose way run input disk due output (inl failed) e =
@@ -405,15 +406,15 @@ disk_fault_rose (Some (Gen recipe)) input disk due output is e = elim is.done [
 ]
 
 -- a thread that ended by damage did not read a disk that tells its words
-damaged_untold : (script : Script) (config : Config) (report : Report) (t : ℕ) (e : ThreadEnd)
-    → MayEnd true script config report t e → is_damaged e ≡ true → ⊥
-damaged_untold script config report t end.Done may is = absurd (cc)
-damaged_untold script config report t (end.OutOfHeap held need) may is = absurd (cc)
-damaged_untold script config report t end.DiskFault may is = absurd (cc)
-damaged_untold script config report t (end.Damaged home at word) may is = may.0 refl
-damaged_untold script config report t end.Halted may is = absurd (cc)
+damaged_untold : (script : Script) (config : Config) (moments : List Moment) (report : Report) (t : ℕ) (e : ThreadEnd)
+    → MayEnd true script config moments report t e → is_damaged e ≡ true → ⊥
+damaged_untold script config moments report t end.Done may is = absurd (cc)
+damaged_untold script config moments report t (end.OutOfHeap held need) may is = absurd (cc)
+damaged_untold script config moments report t end.DiskFault may is = absurd (cc)
+damaged_untold script config moments report t (end.Damaged home at word) may is = may.0 refl
+damaged_untold script config moments report t end.Halted may is = absurd (cc)
 
-run_undamaged : (way : Way) (run : Run) (input : Change) (disk : DiskChange) (due : Status) (output : List ℕ)
+pub run_undamaged : (way : Way) (run : Run) (input : Change) (disk : DiskChange) (due : Status) (output : List ℕ)
     → InputDue way run input disk due output → due ≡ status.Damaged → IsSome disk.before → ⊥
 run_undamaged way run input disk due output (inl failed) e tells =
     omega (arith, ap exit_number failed.status, ap exit_number e)
@@ -425,7 +426,7 @@ run_undamaged way run input disk due output (inr read) e tells = elim read.trace
       (damage_case (ended is_disk_fault report || halted_by_fault report.halt) (ended is_damaged report)
       (halted_by_full report.halt) (ended is_out_of_heap report) (sym ran.ran.status ∙ e)) in
       let reported = (ran.ran.has_run true (λ told. tells)).reported in
-      damaged_untold ran.script run.config report found.0 found.1.0.end (reported.ends found.0 found.1.0 found.1.1)
+      damaged_untold ran.script run.config reported.moments report found.0 found.1.0.end (reported.ends found.0 found.1.0 found.1.1)
       found.1.2
 ]
 

@@ -1,14 +1,18 @@
 -- What a call of the program does, from the words and the bytes read to the bytes written.
 use Rattle.std.specs.Prelude.{◌≡◌, ℕ, ◌+◌, ◌<◌, ◌≤◌, Bool, true, List, [], length, take, Option, None, Some, IfSome}
-use Rattle.std.specs.Prelude.{IsSome, ◌⊎◌, Ok, Err, if◌then◌else◌}
+use Rattle.std.specs.Prelude.{IsSome, ◌⊎◌, Ok, Err, if◌then◌else◌, slice_get}
 use Rattle.melt_io.specs.Outside.{Rose, TakesFront, Appends}
 use Rattle.melt_model.specs.declared.history.Entry.{Entry}
+use Rattle.melt_model.specs.declared.reports.Halt.{Halt}
 use Rattle.melt_model.specs.declared.reports.Report.{Report}
+use Rattle.melt_model.specs.declared.reports.ThreadEnd.{ThreadEnd}
+use Rattle.melt_model.specs.declared.reports.ThreadEnd.TheVariants as end
+use Rattle.melt_model.specs.declared.reports.ThreadReport.{ThreadReport}
 use Rattle.melt_scion.specs.declared.heap.Heap.{Heap}
 use Rattle.melt_trace.specs.Script.{Script}
 use Rattle.melt_trace.specs.Language.{max_bytes, operation_count, script_of}
 use Rattle.melt_top.specs.Text.{text, usage_text, read_fault_text, refused_text}
-use Rattle.melt_top.specs.Command.{status_of}
+use Rattle.melt_top.specs.Command.{halted_by_full, status_of}
 use Rattle.melt_top.specs.declared.command.Command.{Command}
 use Rattle.melt_top.specs.declared.command.Command.TheVariants.{Gen, Step, Threads}
 use Rattle.melt_top.specs.declared.command.Recipe.{Recipe}
@@ -62,6 +66,20 @@ disk_change image faults read_faults old new = record {
   read_faults_after = read_faults new;
 }
 
+-- The disk tells its words, and none of its calls failed.
+pub record ServedWell (disk : DiskChange) : Type 0 where
+  pub tells : IsSome disk.before
+  pub faults : Rose disk.faults_before disk.faults_after → ⊥
+  pub read_faults : Rose disk.read_faults_before disk.read_faults_after → ⊥
+
+-- how a thread ends over such a disk: done, out of heap, or halted with all others by a disk that is full
+abbrev pub IsServedEnd : Option Halt → ThreadEnd → Type 0
+IsServedEnd halted end.Done = Unit {0}
+IsServedEnd halted (end.OutOfHeap held need) = Unit {0}
+IsServedEnd halted end.DiskFault = ⊥
+IsServedEnd halted (end.Damaged home at word) = ⊥
+IsServedEnd halted end.Halted = halted_by_full halted ≡ true
+
 -- the disk was not used
 pub record IsUnused (disk : DiskChange) : Type 0 where
   pub words : disk.after ≡ disk.before
@@ -103,7 +121,7 @@ stored_by way.Running texts h = []
 -- one legal history, which is a value of the report: where the run is by the written order and that is asked, its log
 -- has each entry of it, and is written; and what the run left of its heap stands for this history, over the words that
 -- the disk has then. The disk's counts tell of each thread that could not read it, and of a run that it halted by a
--- fault.
+-- fault; so where none of them rose, no thread ended by the disk, but for one that was full.
 pub record RunDue (way : Way) (script : Script) (run : Run) (disk : DiskChange) (due : Status) (output : List ℕ)
     : Type 0 where
   pub report : Report
@@ -114,6 +132,8 @@ pub record RunDue (way : Way) (script : Script) (run : Run) (disk : DiskChange) 
   pub logged : report.log ≡ stored_by way run.texts report.history
   pub shows : shown.image ≡ disk.after
   pub counts : CountsFaults report disk.faults_before disk.faults_after disk.read_faults_before disk.read_faults_after
+  pub complete : ServedWell disk
+      → (t : ℕ) (r : ThreadReport) → slice_get report.threads t ≡ Some r → IsServedEnd report.halt r.end
   pub status : due ≡ status_of report
   pub told : output ≡ text (record { report = report; texts = run.texts })
 
@@ -231,6 +251,38 @@ abbrev pub Outcome : Option Command → Change → DiskChange → Change → Sta
 Outcome command input disk out status.NoMemory = GaveUp command input out
 Outcome command input disk out status.WriteFault = WrotePart command input disk out
 Outcome command input disk out answered = WroteAll command input disk out answered
+
+-- ---- that what can be done is done
+
+-- these bytes are a trace
+abbrev pub IsTrace : Option (List ℕ) → Type 0
+IsTrace None = ⊥
+IsTrace (Some bytes) = (script : Script) × (script_of bytes ≡ Ok script)
+
+-- What the words ask for can be done: the input is a trace, or the trace to be made is not too long.
+abbrev pub CanBeDone : Option Command → Change → Type 0
+CanBeDone None input = ⊥
+CanBeDone (Some (Step run)) input = IsTrace input.before
+CanBeDone (Some (Threads run)) input = IsTrace input.before
+CanBeDone (Some (Gen recipe)) input = IsTooLong recipe → ⊥
+
+-- nothing that was handed in failed
+pub record NothingFailed (input : Change) (disk : DiskChange) (out : Change) : Type 0 where
+  pub reading : Rose input.faults_before input.faults_after → ⊥
+  pub disk_serves : ServedWell disk
+  pub writing : Rose out.faults_before out.faults_after → ⊥
+
+-- the answers to a run over such a disk: that of threads which are all done, else that of one for which the heap has no
+-- room, or of a disk that is full
+abbrev pub EndsARun : Status → Type 0
+EndsARun answered = (answered ≡ status.Done) ⊎ (answered ≡ status.OutOfHeap) ⊎ (answered ≡ status.DiskFull)
+
+-- what is answered then, unless memory is wanted
+abbrev pub IsComplete : Option Command → Status → Type 0
+IsComplete None answered = ⊥
+IsComplete (Some (Step run)) answered = EndsARun answered
+IsComplete (Some (Threads run)) answered = EndsARun answered
+IsComplete (Some (Gen recipe)) answered = answered ≡ status.Done
 
 -- the statuses that a command has today
 abbrev pub IsBuilt : Status → Type 0

@@ -10,7 +10,8 @@ ghost use Rattle.melt_trace.specs.Language.{script_of};
 ghost use Rattle.melt_top.specs.Command.{HasRanges, meant};
 ghost use Rattle.melt_top.specs.Text.{refused_text};
 ghost use Rattle.melt_top.specs.Headline.{Due, InputDue, IsUsage, MadeNone, MadeTrace, ReadAFront, RunDue, TraceDue};
-ghost use Rattle.melt_top.specs.Headline.{IsBuilt, Outcome, ReadAtMost, change, disk_change, stored_by};
+ghost use Rattle.melt_top.specs.Headline.{CanBeDone, IsBuilt, IsComplete, NothingFailed, Outcome, ReadAtMost};
+ghost use Rattle.melt_top.specs.Headline.{change, disk_change, stored_by};
 
 use crate::command::{Command, Recipe, Run, command_of};
 use crate::status::{Status, status_for};
@@ -239,6 +240,12 @@ pub fn melt<X: Threads + Sync, S: Source, K: Sink, D: StaleDisk, G: Gate + Sync>
         ⊎ Rose (D.read_faults disk.old) (D.read_faults disk.new) }
     ensures damaged { result ≡ Status.Damaged → IsSome (D.image disk.old) → ⊥ }
     ensures no_others { IsBuilt result }
+    // And where nothing failed, what can be done is done.
+    ensures complete { CanBeDone (meant (map string_bytes words.now)) (change S.left S.faults input.old input.new)
+        → NothingFailed (change S.left S.faults input.old input.new)
+        (disk_change D.image D.faults D.read_faults disk.old disk.new)
+        (change K.written K.faults out.old out.new)
+        → (result ≡ Status.NoMemory) ⊎ IsComplete (meant (map string_bytes words.now)) result }
 {
     let Ok(answer) = answer_to(rt, alloc, words, input, disk, gate) else {
         return Status::NoMemory;

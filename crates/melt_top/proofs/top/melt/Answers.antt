@@ -1,4 +1,5 @@
-use Rattle.std.proofs.Common.{inl}
+use Rattle.std.proofs.Common.{inl, inr}
+use Rattle.melt_top.proofs.Completing.{is_complete}
 use Rattle.melt_top.proofs.TopLaws.{disk_fault_rose, due_built, never_damaged, no_write_fault, read_fault_rose}
 use Rattle.melt_top.proofs.TopLaws.{refused_words, usage_due, wrote_all}
 use Rattle.melt_top.proofs.top.melt.Goals as goal
@@ -34,3 +35,8 @@ returns-in-Ok-write_all-clause-disk_fault g c =
 pub returns-in-Ok-write_all-clause-damaged : goal.returns-in-Ok-write_all-clause-damaged
 returns-in-Ok-write_all-clause-damaged g c =
     λ e. never_damaged _ _ _ c.in-Ok.answer.status c.in-Ok.answer.text.items c.in-Ok.ensures.due e
+
+pub returns-in-Ok-write_all-clause-complete : goal.returns-in-Ok-write_all-clause-complete
+returns-in-Ok-write_all-clause-complete g c =
+    λ good well. inr (is_complete _ _ _ c.in-Ok.answer.status c.in-Ok.answer.text.items c.in-Ok.ensures.due good
+    well.reading well.disk_serves)

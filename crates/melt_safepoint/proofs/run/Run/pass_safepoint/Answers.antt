@@ -21,7 +21,7 @@ use Rattle.melt_safepoint.proofs.Lacking.{room_goes}
 use Rattle.melt_safepoint.proofs.Lends.{lends_after, lends_one, lends_since, lends_twice, planned_longer}
 use Rattle.melt_safepoint.proofs.Losses.{CountsBefore, counts_made, counts_same, counts_then}
 use Rattle.melt_safepoint.proofs.OwnCollections.{own_due, own_less}
-use Rattle.melt_safepoint.proofs.Safepoints.{none_lacks, none_own, room_before}
+use Rattle.melt_safepoint.proofs.Safepoints.{lowest_before, none_lacks, none_own, room_before}
 use Rattle.melt_safepoint.proofs.StopLends.{stop_more, stop_one, stop_twice, twice_stop_none}
 use Rattle.melt_safepoint.proofs.ToDo.{collected_within}
 use Rattle.melt_safepoint.proofs.TwoMoves.{if_err_from, if_ok_from}
@@ -315,6 +315,8 @@ returns-clause-made g c =
         c.in-Some.thread,
         room_before c.args.self.states.items c.in_ok-run.run'.states.items c.in-Some.thread c.in_ok-run.ensures.all
             c.in-Some.ensures.some,
+        lowest_before c.args.self.states.items c.in_ok-run.run'.states.items c.in-Some.thread c.in_ok-run.ensures.all
+            c.in-Some.ensures.first,
         record {
           shown = g.S.Space.sees.shown c.if-len-made.space;
           mid = row_of g.E.Machine.view c.if-len-made.run;
