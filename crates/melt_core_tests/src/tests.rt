@@ -5,7 +5,7 @@ ghost use Rattle.melt_core.specs.Views.{IsQuiet, Standing, call_of, view};
 
 use melt_core::{Core, Pause, Refusal, Rest, StepResult};
 use melt_io::{Failed, RecordReader};
-use melt_model::{Act, Entry, NoMemory, Op, Reply, Slot, Value};
+use melt_model::{Act, Entries, Entry, NoMemory, Op, Reply, Slot, Value};
 use melt_same::same;
 use melt_scion::{Heap, Registers};
 use std::alloc::Global;
@@ -197,17 +197,36 @@ fn expect(core: &mut Core, calls: &[Wanted]) -> Result<(), Fail>
     Ok(())
 }
 
+/// What calls leave: whether the threads are stopped, the words claimed and those in use, and the history that is stored.
+#[derive(Drop)]
+struct Left {
+    is_stopped: bool,
+    claimed: u32,
+    used: u32,
+    history: Entries,
+}
+
+/// Makes calls on a core over a new heap, compares what they come to, and finishes it. One function holds the heap for
+/// many tests, since each that holds one is dear to prove.
+fn leave(alloc: Global, words: u32, named: bool, calls: &[Wanted]) -> Result<Left, Fail>
+    requires words { words < 2 ^ 30 }
+    requires few { length calls.now ≤ 32 }
+{
+    let mut core = core_over(alloc, words, named)?;
+    expect(&mut core, calls)?;
+    let (is_stopped, claimed) = (core.is_stopped(), core.used());
+    let (heap, rest) = core.finish();
+    Ok(Left {
+        is_stopped,
+        claimed,
+        used: heap.space.used(),
+        history: rest.into_history(),
+    })
+}
+
 /// Makes one object, and reads and writes its parts, and answers how many entries of a history are stored behind that.
 /// Each call but one has an entry.
-fn entries_of_parts(mut core: Core) -> Result<usize, Fail>
-    requires stands { Standing false no_homes_on (view core) }
-    requires quiet { IsQuiet (view core) }
-    requires globals { length (view core).globals ≡ 1 }
-    requires threads { length (view core).held ≡ 2 }
-    requires forwards { length (view core).forward ≤ 16 }
-    requires history { (view core).log ≡ [] }
-    requires room { 32 ≤ (view core).capacity }
-{
+fn entries_of_parts(alloc: Global, named: bool) -> Result<usize, Fail> {
     let calls = [
         answered(0, new(0, 1, 2), 7, Reply::Done),
         answered(0, load(1, 0, 0), 3, Reply::Null),
@@ -219,28 +238,22 @@ fn entries_of_parts(mut core: Core) -> Result<usize, Fail>
         answered(0, get(1, 1), 3, Reply::Num(7)),
         answered(0, get(1, 0), 3, Reply::Num(0)),
     ];
-    expect(&mut core, &calls)?;
-    let (_, rest) = core.finish();
-    Ok(rest.into_history().items.len())
+    let left = leave(alloc, 5, named, &calls)?;
+    Ok(left.history.items.len())
 }
 
 #[test]
 fn what_was_put_and_stored_is_found(rt: HostRuntime) -> Result<(), Fail> {
-    let core = core_over(rt.alloc(), 5, true)?;
-    same(entries_of_parts(core)?, 8)?;
-    Ok(())
+    same(entries_of_parts(rt.alloc(), true)?, 8)
 }
 
 #[test]
 fn it_is_found_where_no_history_is_stored(rt: HostRuntime) -> Result<(), Fail> {
-    let core = core_over(rt.alloc(), 5, false)?;
-    same(entries_of_parts(core)?, 0)?;
-    Ok(())
+    same(entries_of_parts(rt.alloc(), false)?, 0)
 }
 
 #[test]
 fn a_part_that_is_not_there_is_out_of_range(rt: HostRuntime) -> Result<(), Fail> {
-    let mut core = new_core(rt.alloc(), 4)?;
     let calls = [
         answered(0, new(0, 1, 1), 6, Reply::Done),
         answered(0, load(1, 0, 1), 2, Reply::Range),
@@ -249,8 +262,8 @@ fn a_part_that_is_not_there_is_out_of_range(rt: HostRuntime) -> Result<(), Fail>
         answered(0, put(0, 1, 7), 2, Reply::Range),
         answered(0, get(0, 0), 3, Reply::Num(0)),
     ];
-    expect(&mut core, &calls)?;
-    Ok(())
+    let left = leave(rt.alloc(), 4, true, &calls)?;
+    same(left.used, 4)
 }
 
 #[test]
@@ -272,13 +285,11 @@ fn registers_are_copied_and_dropped(rt: HostRuntime) -> Result<(), Fail> {
     core.drop_all(1);
     let (_, mut rest) = core.finish();
     let none = Registers { regs: [0; 16] };
-    same(rest.registers().get(1).copied(), Some(none))?;
-    Ok(())
+    same(rest.registers().get(1).copied(), Some(none))
 }
 
 #[test]
 fn threads_share_what_a_global_holds(rt: HostRuntime) -> Result<(), Fail> {
-    let mut core = new_core(rt.alloc(), 3)?;
     let calls = [
         answered(1, gload(5, 0), 2, Reply::Null),
         answered(0, new(0, 0, 1), 5, Reply::Done),
@@ -290,26 +301,22 @@ fn threads_share_what_a_global_holds(rt: HostRuntime) -> Result<(), Fail> {
         answered(0, get(0, 0), 3, Reply::Num(4)),
         answered(1, get(0, 0), 1, Reply::Nil),
     ];
-    expect(&mut core, &calls)?;
-    Ok(())
+    let left = leave(rt.alloc(), 3, true, &calls)?;
+    same(left.used, 3)
 }
 
 #[test]
 fn an_object_that_does_not_fit_stops_the_threads(rt: HostRuntime) -> Result<(), Fail> {
-    let mut core = new_core(rt.alloc(), 5)?;
     let calls = [
         paused(0, new(0, 2, 2), 3, Pause::Space { need: 6 }),
         paused(1, gload(0, 0), 1, Pause::Asked),
         paused(0, new(0, 0, 0), 1, Pause::Asked),
         answered(0, compare(0, 1), 1, Reply::Yes),
     ];
-    expect(&mut core, &calls)?;
-    same(core.is_stopped(), true)?;
-    same(core.used(), 6)?;
-    let (heap, rest) = core.finish();
-    same(heap.space.used(), 5)?;
-    same(rest.into_history().items.len(), 0)?;
-    Ok(())
+    let left = leave(rt.alloc(), 5, true, &calls)?;
+    let words = (left.claimed, left.used);
+    let got = (left.is_stopped, words, left.history.items.len());
+    same(got, (true, (6, 5), 0))
 }
 
 /// Ends an epoch of two threads, of which none may have a call in flight.
@@ -317,10 +324,12 @@ fn finish_free(core: Core) -> Result<Rest, Fail>
     requires stands { Standing false no_homes_on (view core) }
     requires threads { length (view core).held ≡ 2 }
 {
-    same(core.is_free(0), true)?;
-    same(core.is_free(1), true)?;
-    let (_, rest) = core.finish();
-    Ok(rest)
+    if core.is_free(0) && core.is_free(1) {
+        let (_, rest) = core.finish();
+        Ok(rest)
+    } else {
+        Err(Fail::new("a call is in flight"))
+    }
 }
 
 /// What the first register of a thread holds.
@@ -344,17 +353,19 @@ fn objects_that_are_made_at_once_stand_apart(rt: HostRuntime) -> Result<(), Fail
         same((events, first, second), (events, wanted, wanted))?;
     }
     let mut rest = finish_free(core)?;
-    same(first_register(&mut rest, 0), Some(1))?;
-    same(first_register(&mut rest, 1), Some(5))?;
+    let registers = [first_register(&mut rest, 0), first_register(&mut rest, 1)];
     let entries = [Entry { thread: 0, act }, Entry { thread: 1, act }];
-    same(rest.into_history().items.as_slice(), entries.as_slice())?;
-    Ok(())
+    let history = rest.into_history();
+    same(
+        (registers, history.items.as_slice()),
+        ([Some(1), Some(5)], entries.as_slice()),
+    )
 }
 
 #[test]
 fn what_registers_hold_is_counted_once(rt: HostRuntime) -> Result<(), Fail> {
     let mut core = new_core(rt.alloc(), 10)?;
-    same(core.held(), 0)?;
+    let none = core.held();
     let calls = [
         answered(0, new(0, 1, 2), 7, Reply::Done),
         answered(0, gstore(0, 0), 2, Reply::Done),
@@ -365,10 +376,9 @@ fn what_registers_hold_is_counted_once(rt: HostRuntime) -> Result<(), Fail> {
         answered(0, Op::Drop { r: 1 }, 1, Reply::Done),
     ];
     expect(&mut core, &calls)?;
-    same(core.held(), 8)?;
+    let both = core.held();
     core.drop_all(1);
-    same(core.held(), 5)?;
-    Ok(())
+    same((none, both, core.held()), (0, 8, 5))
 }
 
 /// Calls of two threads, of which all but the copy and the one out of range have an entry.
@@ -413,15 +423,10 @@ fn entries_of_calls() -> [Entry; 8] {
 
 #[test]
 fn the_history_has_the_entries_of_calls_in_order(rt: HostRuntime) -> Result<(), Fail> {
-    let mut core = new_core(rt.alloc(), 9)?;
-    expect(&mut core, &calls_with_entries())?;
-    let (heap, rest) = core.finish();
-    same(heap.space.used(), 6)?;
-    same(
-        rest.into_history().items.as_slice(),
-        entries_of_calls().as_slice(),
-    )?;
-    Ok(())
+    let left = leave(rt.alloc(), 9, true, &calls_with_entries())?;
+    let entries = entries_of_calls();
+    let got = (left.used, left.history.items.as_slice());
+    same(got, (6, entries.as_slice()))
 }
 
 #[test]
@@ -429,11 +434,12 @@ fn a_call_in_one_go_is_answered(rt: HostRuntime) -> Result<(), Fail> {
     let mut core = new_core(rt.alloc(), 5)?;
     same(core.is_free(0), true)?;
     let result = core.call_at_once(0, new(0, 1, 2));
-    same(result, StepResult::Answered(Reply::Done))?;
-    same(core.used(), 5)?;
-    let rest = finish_free(core)?;
+    let used = core.used();
+    let history = finish_free(core)?.into_history();
     let act = Act::Make { refs: 1, nums: 2 };
     let entries = [Entry { thread: 0, act }];
-    same(rest.into_history().items.as_slice(), entries.as_slice())?;
-    Ok(())
+    same(
+        (result, used, history.items.as_slice()),
+        (StepResult::Answered(Reply::Done), 5, entries.as_slice()),
+    )
 }

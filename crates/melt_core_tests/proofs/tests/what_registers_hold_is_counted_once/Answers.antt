@@ -3,5 +3,5 @@ use Rattle.melt_scion.specs.Heaps.{no_homes_on}
 use Rattle.melt_core_tests.proofs.tests.what_registers_hold_is_counted_once.Goals as goal
 
 -- what stands still does when a thread let its registers hold nothing
-pub held-requires-3 : goal.held-requires-3
-held-requires-3 c = (no_homes_on, c.drop_all.ensures.keeps false no_homes_on c.expect.ensures.stands)
+pub held-requires : goal.held-requires
+held-requires c = (no_homes_on, c.drop_all.ensures.keeps false no_homes_on c.expect.ensures.stands)
