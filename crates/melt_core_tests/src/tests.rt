@@ -1,9 +1,14 @@
-ghost use Rattle.std.specs.Prelude.{◌≡◌, ◌≢◌, ◌+◌, ◌*◌, ◌^◌, ◌<◌, ◌≤◌, false, None, [], length, IfOk, IsTrue};
-ghost use Rattle.melt_scion.specs.Heaps.{no_homes_on};
+ghost use Rattle.std.specs.Prelude.{◌≡◌, ◌≢◌, ◌+◌, ◌*◌, ◌^◌, ◌<◌, ◌≤◌, false, None, [], length, List};
+ghost use Rattle.std.specs.Prelude.{Bool, IfOk, IsTrue};
+ghost use Rattle.melt_word.specs.Words.{IsDiskHome};
+ghost use Rattle.melt_forward.specs.Forwarding.{Finds};
+ghost use Rattle.melt_scion.specs.Heaps.{OnDisk, no_homes_on, state_of};
+ghost use Rattle.melt_scion.specs.Placed.{Holds, Maps};
 ghost use Rattle.melt_core.specs.Advances.{AdvancesOver, Asks, InBounds, KeepsOthers};
 ghost use Rattle.melt_core.specs.Views.{IsQuiet, Standing, call_of, view};
 
 use melt_core::{Core, Pause, Refusal, Rest, StepResult};
+use melt_forward::{Found, find};
 use melt_io::{Failed, RecordReader};
 use melt_model::{Act, Entries, Entry, NoMemory, Op, Reply, Slot, Value};
 use melt_same::same;
@@ -442,4 +447,22 @@ fn a_call_in_one_go_is_answered(rt: HostRuntime) -> Result<(), Fail> {
         (result, used, history.items.as_slice()),
         (StepResult::Answered(Reply::Done), 5, entries.as_slice()),
     )
+}
+
+/// What the whole search for a home finds among the forwarding words of a heap, between two events of an epoch.
+fn find_among(heap: &Heap, home: u32) -> Found
+    requires home { IsDiskHome home }
+    requires few { length heap.now.forward < 2 ^ 32 }
+    requires holds { (told : Bool) × (log : List Entry) × (maps : Maps) × (held : List Registers) × (disk : OnDisk)
+        × Holds told log maps (state_of heap.now held disk) }
+    ensures { Finds heap.now.forward home result }
+{
+    find(&heap.forward.items, home)
+}
+
+#[test]
+fn homes_are_searched_from_places_of_their_own(rt: HostRuntime) -> Result<(), Fail> {
+    let heap = Heap::new(rt.alloc(), 16, 1, 1024, false)?;
+    let found = [find_among(&heap, 1), find_among(&heap, 4)];
+    same(found, [Found::Empty(441), Found::Empty(740)])
 }
