@@ -367,9 +367,16 @@ fn objects_that_are_made_at_once_stand_apart(rt: HostRuntime) -> Result<(), Fail
     )
 }
 
-#[test]
-fn what_registers_hold_is_counted_once(rt: HostRuntime) -> Result<(), Fail> {
-    let mut core = new_core(rt.alloc(), 10)?;
+/// Counts what registers hold on a new core, behind calls, and when one thread has let go of all.
+fn count_held(core: &mut Core) -> Result<(), Fail>
+    requires stands { Standing false no_homes_on (view core.old) }
+    requires quiet { IsQuiet (view core.old) }
+    requires globals { length (view core.old).globals ≡ 1 }
+    requires threads { length (view core.old).held ≡ 2 }
+    requires forwards { length (view core.old).forward ≤ 16 }
+    requires history { (view core.old).log ≡ [] }
+    requires room { 32 ≤ (view core.old).capacity }
+{
     let none = core.held();
     let calls = [
         answered(0, new(0, 1, 2), 7, Reply::Done),
@@ -380,10 +387,16 @@ fn what_registers_hold_is_counted_once(rt: HostRuntime) -> Result<(), Fail> {
         answered(0, new(1, 0, 0), 4, Reply::Done),
         answered(0, Op::Drop { r: 1 }, 1, Reply::Done),
     ];
-    expect(&mut core, &calls)?;
+    expect(core, &calls)?;
     let both = core.held();
     core.drop_all(1);
     same((none, both, core.held()), (0, 8, 5))
+}
+
+#[test]
+fn what_registers_hold_is_counted_once(rt: HostRuntime) -> Result<(), Fail> {
+    let mut core = new_core(rt.alloc(), 10)?;
+    count_held(&mut core)
 }
 
 /// Calls of two threads, of which all but the copy and the one out of range have an entry.

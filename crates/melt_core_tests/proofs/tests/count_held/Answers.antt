@@ -1,6 +1,6 @@
 use Rattle.std.specs.Prelude.{false}
 use Rattle.melt_scion.specs.Heaps.{no_homes_on}
-use Rattle.melt_core_tests.proofs.tests.what_registers_hold_is_counted_once.Goals as goal
+use Rattle.melt_core_tests.proofs.tests.count_held.Goals as goal
 
 -- what stands still does when a thread let its registers hold nothing
 pub held-requires : goal.held-requires
