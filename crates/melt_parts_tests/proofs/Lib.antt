@@ -2,3 +2,4 @@ mod Written
 mod Gaps
 mod WordAt
 mod Testing
+mod Lists
