@@ -1,3 +1,1 @@
 mod BuildingBox
-mod BuildingTwo
-mod TwoObjects

@@ -1,6 +1,3 @@
-mod boxes;
-mod choice;
 mod collect;
 mod given;
-mod moved;
 mod planned;

@@ -1,163 +1,237 @@
-ghost use Rattle.std.specs.Prelude.{◌≡◌, ◌<◌, ◌≤◌, ◌+◌, ◌^◌, ◌∷◌, [], slice_index, IfOk};
-ghost use Rattle.melt_move.specs.GivenScions.{AwaitScions};
-ghost use Rattle.melt_move.specs.NamedHomes.{HasSpare};
-ghost use Rattle.melt_move.specs.Plans.{need_for};
+ghost use Rattle.std.specs.Prelude.{◌≡◌, ◌<◌, ◌∷◌, [], Some, IfOk};
+ghost use Rattle.melt_word.specs.Words.{home_word};
+ghost use Rattle.melt_forward.specs.Forwarding.{forward_word};
+ghost use Rattle.melt_move.specs.Collecting.{IsFormedOn};
+ghost use Rattle.melt_move_tests.specs.Held.{third_holds};
 
-use super::boxes::LEAF;
-use melt_copy::{Forwarding, Relocation};
-use melt_disk::StaleSpace;
-use melt_io::{Failed, SteadyDisk};
-use melt_model::Steps;
-use melt_move::choice::Choice;
-use melt_move::commit::name_homes;
-use melt_move::decision::Decision;
-use melt_move::homes::{Given, NewHomes};
-use melt_move::scions::give_scions;
+use melt_copy_tests::heaps::heap_of;
+use melt_disk::{DiskFull, StaleSpace};
+use melt_forward::pack;
+use melt_io::{MemDisk, StaleDisk, SteadyDisk};
+use melt_model::{Journal, NoMemory, Phase, Steps};
+use melt_move::collect::MoveRefusal;
+use melt_move::planned::{Plan, collect_planned};
 use melt_same::same;
-use melt_scion::{AddressNames, GhostMaps, Heap, HomeNames, Names};
-use melt_word::{HomeWord, Shape, encode_home};
+use melt_scion::{AddressNames, Heap, Registers};
+use melt_word::{Header, HomeWord, Ref, Shape, encode_header, encode_home, encode_ref};
 use std::alloc::Global;
 use std::marker::Brand;
 use std::sync::ledger::{Blank, Ledger};
 use std::test::Fail;
 
-const PAIR: Shape = Shape { refs: 1, nums: 1 };
+pub const PAIR: Shape = Shape { refs: 1, nums: 1 };
 
-/// A leaf that moves from word 3 to word 1.
-const STAYS: Relocation = Relocation {
-    from: 3,
-    to: 1,
-    shape: LEAF,
+const BOX: Shape = Shape { refs: 2, nums: 0 };
+
+/// The words of a stale box at 1, which has no home and refers to a pair and to itself, and of the pair at 5, which has
+/// this home word, refers to the box, and has the number 9.
+pub fn box_and_pair_words(home: u64) -> [u64; 8]
+    ensures { result ≡ 515 ∷ 0 ∷ 20 ∷ 5 ∷ 65793 ∷ home ∷ 5 ∷ 9 ∷ [] }
+{
+    let stale_box = encode_header(Header {
+        shape: BOX,
+        stale: true,
+    });
+    let pair = encode_header(Header {
+        shape: PAIR,
+        stale: false,
+    });
+    let to_pair = encode_ref(Ref::Clean(5));
+    let to_box = encode_ref(Ref::Stale(1));
+    [stale_box, 0, to_pair, to_box, pair, home, to_box, 9]
+}
+
+/// The globals of a heap of both: the first refers to the box, and the second to the pair.
+pub fn box_and_pair_globals() -> [u64; 2]
+    ensures { result ≡ 5 ∷ 20 ∷ [] }
+{
+    [encode_ref(Ref::Stale(1)), encode_ref(Ref::Clean(5))]
+}
+
+/// Registers of one thread, of which the one with the number 2 holds what is at an address.
+pub fn third_holds(address: u32) -> [Registers; 1]
+    ensures { result ≡ third_holds address }
+{
+    let mut regs = [0; 16];
+    regs[2] = address;
+    [Registers { regs }]
+}
+
+/// A heap of 8 words with both and with these forwarding words. The pair has the number 0, and the box the number 1.
+fn heap_of_both(alloc: Global, home: u64, forward: &[u64]) -> Result<Heap, NoMemory>
+    ensures alone { home ≡ 0 → forward.now ≡ [] → IfOk result (λ heap. IsFormedOn heap (third_holds 5) 1) }
+    ensures back { home ≡ home_word (Some (record { home = 1; scion = 0 })) → forward.now ≡ forward_word 1 5 ∷ []
+        → IfOk result (λ heap. IsFormedOn heap (third_holds 5) 5) }
+{
+    let mut addresses = AddressNames::new(alloc, 8)?;
+    addresses.set(5, 0);
+    addresses.set(1, 1);
+    let words = box_and_pair_words(home);
+    let globals = box_and_pair_globals();
+    let heap = heap_of(alloc, 8, &words, addresses, &globals, forward)?;
+    Ok(heap)
+}
+
+/// The heap in which the pair has no home.
+pub fn box_and_pair(alloc: Global) -> Result<Heap, NoMemory>
+    ensures { IfOk result (λ heap. IsFormedOn heap (third_holds 5) 1) }
+{
+    heap_of_both(alloc, 0, &[])
+}
+
+/// The heap in which the pair came back from the home 1.
+pub fn box_and_pair_back(alloc: Global) -> Result<Heap, NoMemory>
+    ensures { IfOk result (λ heap. IsFormedOn heap (third_holds 5) 5) }
+{
+    let home = encode_home(Some(HomeWord { home: 1, scion: 0 }));
+    heap_of_both(alloc, home, &[pack(1, 5)])
+}
+
+/// Every phase but Inactive is planned as soon as it may be.
+pub const EAGER: Plan = Plan {
+    next: Phase::Inactive,
+    mark: 0,
+    move_: 0,
 };
 
-/// Homes for these objects, from a word on. The offsets are those of addresses up to 3.
-fn homes_for(
+/// What is told of a collection: its journal, the phase that is planned behind it, and where the homes end then.
+pub type Told = (Journal, Phase, u32);
+
+/// Makes a planned collection, and counts no steps.
+fn collect_uncounted<D: StaleDisk, L: Ledger>(
     alloc: Global,
-    first: u32,
-    last_offset: u32,
-    objects: &[Given],
-) -> Result<NewHomes, Fail>
-    ensures first { IfOk result (λ homes. homes.first ≡ first) }
-    ensures offset { IfOk result (λ homes. slice_index homes.offsets.items 3 ≡ last_offset) }
-    ensures given { IfOk result (λ homes. homes.given.items ≡ objects.now) }
+    heap: Heap,
+    held: &mut [Registers],
+    disk: &mut StaleSpace<'_, D>,
+    plan: &mut Plan,
+    force: bool,
+    blank: Blank,
+) -> Result<(Heap, Journal), MoveRefusal>
+    requires name { blank.name ≡ L.name }
+    requires parts { blank.parts ≡ L.parts }
+    requires some { 0 < blank.parts }
+    requires formed { IsFormedOn heap held.old disk.old.end }
+    ensures { IfOk result (λ done. IsFormedOn done.0 held.new disk.new.end) }
 {
-    let mut offsets = vec![in alloc; 0; 4]?;
-    offsets[3] = last_offset;
-    let mut given = Vec::new(alloc);
-    given.extend_from_slice(objects)?;
-    Ok(NewHomes {
-        first,
-        offsets,
-        given,
-        counts: [0; 127],
-    })
+    let mut steps = Steps::<L>::new(blank);
+    collect_planned(alloc, heap, held, disk, plan, force, &mut steps)
 }
 
-/// What is decided where the leaf alone stays, and gets the home at word 1.
-fn leaf_stays(alloc: Global) -> Result<Decision, Fail>
-    ensures moves { IfOk result (λ decision. decision.choice.stay.moves.items
-        ≡ record { from = 3; to = 1; shape = record { refs = 0; nums = 0 } } ∷ []) }
-    ensures first { IfOk result (λ decision. decision.homes.first ≡ 1) }
-    ensures offset { IfOk result (λ decision. slice_index decision.homes.offsets.items 3 ≡ 1) }
+/// Makes a planned collection.
+fn collect<D: StaleDisk>(
+    alloc: Global,
+    heap: Heap,
+    held: &mut [Registers],
+    disk: &mut StaleSpace<'_, D>,
+    plan: &mut Plan,
+    force: bool,
+) -> Result<(Heap, Journal), MoveRefusal>
+    requires { IsFormedOn heap held.old disk.old.end }
+    ensures { IfOk result (λ done. IsFormedOn done.0 held.new disk.new.end) }
 {
-    let mut stay = Forwarding::new(alloc, 4)?;
-    // The object at 3 gets the address 1.
-    stay.entries[1] = 3;
-    stay.moves.push(STAYS)?;
-    stay.next = 3;
-    let given = Given {
-        from: 3,
-        shape: LEAF,
-    };
-    Ok(Decision {
-        choice: Choice {
-            stay,
-            leaving: Vec::new(alloc),
-        },
-        homes: homes_for(alloc, 1, 1, &[given])?,
-        front: 0,
-        held_words: 0,
-    })
+    collect_uncounted::<D, Brand>(alloc, heap, held, disk, plan, force, Blank::new(1))
 }
 
-/// Gives scions, and counts no steps.
-fn give_uncounted<L: Ledger>(
-    heap: &mut Heap,
+/// Makes a planned collection, which is not refused.
+pub fn collect_told(
+    alloc: Global,
+    heap: Heap,
+    held: &mut [Registers],
     disk: &mut StaleSpace<'_, SteadyDisk>,
-    decision: &Decision,
-    blank: Blank,
-) -> Result<u32, Failed>
-    requires name { blank.name ≡ L.name }
-    requires parts { blank.parts ≡ L.parts }
-    requires some { 0 < blank.parts }
-    requires awaits { AwaitScions heap.old decision.now.homes decision.now.choice.stay.moves.items disk.old.end }
+    plan: &mut Plan,
+    force: bool,
+) -> Result<(Heap, Told), Fail>
+    requires { IsFormedOn heap held.old disk.old.end }
+    ensures { IfOk result (λ done. IsFormedOn done.0 held.new disk.new.end) }
 {
-    let mut steps = Steps::<L>::new(blank);
-    give_scions(heap, disk, decision, &mut steps)
+    match collect(alloc, heap, held, disk, plan, force) {
+        Ok((heap, journal)) => Ok((heap, (journal, plan.next, disk.end()))),
+        // What goes at the end of a function is proved there, part by part, and what goes by name once for all.
+        Err(refusal) => {
+            drop(refusal);
+            Err("refused".into())
+        }
+    }
 }
 
-/// Names homes, and counts no steps.
-fn name_uncounted<L: Ledger>(
-    names: &mut Option<Names>,
-    maps: &mut GhostMaps,
-    homes: &NewHomes,
-    blank: Blank,
-)
-    requires name { blank.name ≡ L.name }
-    requires parts { blank.parts ≡ L.parts }
-    requires some { 0 < blank.parts }
-    requires spare { HasSpare homes.now names.old }
-    requires room { homes.now.first + need_for homes.now.given.items ≤ 2 ^ 32 }
+/// Makes a forced collection, which is not refused. Answers what is told, and what registers hold then.
+pub fn collect_forced(
+    alloc: Global,
+    heap: Heap,
+    disk: &mut StaleSpace<'_, SteadyDisk>,
+) -> Result<(Heap, (Told, [Registers; 1])), Fail>
+    requires { IsFormedOn heap (third_holds 5) disk.old.end }
 {
-    let mut steps = Steps::<L>::new(blank);
-    name_homes(names, maps, homes, &mut steps);
+    let mut held = third_holds(5);
+    let mut plan = EAGER;
+    let (heap, told) = collect_told(alloc, heap, &mut held, disk, &mut plan, true)?;
+    Ok((heap, (told, held)))
 }
 
-/// Fails where the leaf has not got its scion and its home word, or the disk not its stub.
-fn same_leaf(heap: &Heap, disk: &SteadyDisk) -> Result<(), Fail> {
-    let scions = [heap.scions.get(1), heap.scions.get(2)];
-    same(scions, [Some((1, 1)), None])?;
-    let word = encode_home(Some(HomeWord { home: 1, scion: 1 }));
-    let words = heap.space.words_at(1, heap.space.words());
-    same(words, [0, word, 0, 0].as_slice())?;
-    same(disk.image.as_slice(), [0, 4_294_967_298, 1].as_slice())?;
-    same(disk.writes, 1)
+/// What is handed back where the disk lacks room.
+fn handed_back(made: Result<(Heap, Journal), MoveRefusal>) -> Result<(Heap, DiskFull), Fail> {
+    match made {
+        Err(MoveRefusal::DiskFull { heap, full }) => Ok((heap, full)),
+        other => {
+            drop(other);
+            Err("not refused for want of room".into())
+        }
+    }
 }
 
-#[test]
-fn an_object_with_a_new_home_gets_a_scion_and_a_stub(rt: HostRuntime) -> Result<(), Fail> {
-    let alloc = rt.alloc();
-    let mut heap = Heap::new(alloc, 4, 0, 0, false)?;
-    let decision = leaf_stays(alloc)?;
-    let mut disk = SteadyDisk::new(alloc);
-    let mut space = StaleSpace::new(&mut disk, 9);
-    let home = space.reserve_home(LEAF)?;
-    let stubs = give_uncounted::<Brand>(&mut heap, &mut space, &decision, Blank::new(1))?;
-    same((home, stubs), (1, 1))?;
-    same_leaf(&heap, &disk)
+/// What is told of a collection for which the disk lacks room: the room that it lacks, where the homes end then, what
+/// registers hold, and what is planned.
+pub type ToldFull = (DiskFull, u32, [Registers; 1], Plan);
+
+/// Makes a forced collection, for which the disk lacks room.
+pub fn collect_full(
+    alloc: Global,
+    heap: Heap,
+    disk: &mut StaleSpace<'_, SteadyDisk>,
+) -> Result<(Heap, ToldFull), Fail>
+    requires { IsFormedOn heap (third_holds 5) disk.old.end }
+{
+    let mut held = third_holds(5);
+    let mut plan = EAGER;
+    let made = collect(alloc, heap, &mut held, disk, &mut plan, true);
+    let (heap, full) = handed_back(made)?;
+    Ok((heap, (full, disk.end(), held, plan)))
 }
 
-#[test]
-fn new_homes_have_the_numbers_of_their_objects(rt: HostRuntime) -> Result<(), Fail> {
-    let alloc = rt.alloc();
-    let mut addresses = AddressNames::new(alloc, 6)?;
-    addresses.set(1, 7);
-    addresses.set(3, 8);
-    let mut homes = HomeNames::new(alloc);
-    homes.reserve(2)?;
-    let mut names = Some(Names { addresses, homes });
-    let mut maps = GhostMaps::none();
-    let pair = Given {
-        from: 3,
-        shape: PAIR,
-    };
-    let leaf = Given {
-        from: 1,
-        shape: LEAF,
-    };
-    let new_homes = homes_for(alloc, 5, 1, &[pair, leaf])?;
-    name_uncounted::<Brand>(&mut names, &mut maps, &new_homes, Blank::new(1));
-    let names = names.ok_or("no names")?;
-    let homes = [names.homes.get(5), names.homes.get(9), names.homes.get(7)];
-    same(homes, [Some(8), Some(7), None])
+/// Fails where something else than this is told, or registers, homes or plan are not as they were.
+pub fn same_full(told: ToldFull, full: DiskFull) -> Result<(), Fail> {
+    same(told, (full, full.end, third_holds(5), EAGER))
+}
+
+/// A disk of which the first write fails.
+pub fn failing(alloc: Global) -> Result<MemDisk, NoMemory> {
+    let mut disk = MemDisk::new(alloc);
+    disk.fail_writes.push(1)?;
+    Ok(disk)
+}
+
+/// Whether a collection gave the heap up.
+fn is_given_up(made: Result<(Heap, Journal), MoveRefusal>) -> bool {
+    let given_up = matches!(made, Err(MoveRefusal::DiskFault));
+    drop(made);
+    given_up
+}
+
+/// Makes a collection over a disk of which the first write fails. Fails where the heap is not given up, registers hold
+/// something, or the plan is not as it was.
+pub fn expect_fault(
+    alloc: Global,
+    heap: Heap,
+    disk: &mut StaleSpace<'_, MemDisk>,
+    force: bool,
+) -> Result<(), Fail>
+    requires { IsFormedOn heap (third_holds 5) disk.old.end }
+{
+    let mut held = third_holds(5);
+    let mut plan = EAGER;
+    let made = collect(alloc, heap, &mut held, disk, &mut plan, force);
+    same(
+        (is_given_up(made), held, plan),
+        (true, third_holds(0), EAGER),
+    )
 }

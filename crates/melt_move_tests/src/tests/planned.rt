@@ -1,196 +1,178 @@
-ghost use Rattle.std.specs.Prelude.{◌≡◌, ◌<◌, IfOk};
 ghost use Rattle.melt_move.specs.Collecting.{IsFormedOn};
+ghost use Rattle.melt_move_tests.specs.Held.{third_holds};
 
-use super::boxes::{LEAF, leaf_and_box, leaf_held};
-use melt_copy_tests::heaps::{heap_of, used_words};
+use super::given::{
+    EAGER, PAIR, Told, ToldFull, box_and_pair_back, box_and_pair_words, collect_forced,
+    collect_full, collect_told, expect_fault, failing, same_full, third_holds,
+};
+use melt_copy_tests::heaps::used_words;
 use melt_disk::{DiskFull, StaleSpace};
-use melt_forward::pack;
-use melt_io::{MemDisk, StaleDisk, SteadyDisk};
-use melt_model::{Journal, Phase, Steps};
-use melt_move::collect::MoveRefusal;
-use melt_move::planned::{Plan, collect_planned};
+use melt_io::{MemDisk, SteadyDisk};
+use melt_model::{Journal, Phase};
 use melt_same::same;
-use melt_scion::{AddressNames, Heap, Registers};
+use melt_scion::{Heap, Registers};
 use melt_word::{HomeWord, Ref, encode_home, encode_ref};
 use std::alloc::Global;
-use std::marker::Brand;
-use std::sync::ledger::{Blank, Ledger};
 use std::test::Fail;
 
-/// Every phase but Inactive is planned as soon as it may be.
-const EAGER: Plan = Plan {
-    next: Phase::Inactive,
-    mark: 0,
-    move_: 0,
-};
-
-/// A heap of 5 words. A leaf at 1, which is in register 2, came back from the home 1. The global refers to a stale box
-/// without a home at 3, which refers to the leaf. The leaf has the number 0, and the box the number 1.
-fn box_and_leaf_back(alloc: Global) -> Result<(Heap, [Registers; 1]), Fail>
-    ensures { IfOk result (λ made. IsFormedOn made.0 made.1 3) }
-{
-    let words = leaf_and_box(encode_home(Some(HomeWord { home: 1, scion: 0 })));
-    let global = encode_ref(Ref::Stale(3));
-    let mut addresses = AddressNames::new(alloc, 5)?;
-    addresses.set(1, 0);
-    addresses.set(3, 1);
-    let heap = heap_of(alloc, 5, &words, addresses, &[global], &[pack(1, 1)])?;
-    Ok((heap, leaf_held()))
+/// Fails where other collections are told than one in each phase, of which the first settles the pair.
+fn same_phases(told: [Told; 3]) -> Result<(), Fail> {
+    let inactive = Journal {
+        phase: Phase::Inactive,
+        held: 4,
+        live: 8,
+        bodies: 0,
+        stubs: 1,
+        end: 5,
+    };
+    let mark = Journal {
+        phase: Phase::Mark,
+        stubs: 0,
+        ..inactive
+    };
+    let moved = Journal {
+        phase: Phase::Move,
+        held: 4,
+        live: 4,
+        bodies: 1,
+        stubs: 0,
+        end: 9,
+    };
+    let wanted = [
+        (inactive, Phase::Mark, 5),
+        (mark, Phase::Move, 5),
+        (moved, Phase::Move, 9),
+    ];
+    same(told, wanted)
 }
 
-/// Makes a planned collection, and counts no steps.
-fn collect_uncounted<D: StaleDisk, L: Ledger>(
+/// Fails where other collections are told, the box has not left the heap behind them, or the pair has not stayed.
+fn same_left(heap: &Heap, held: [Registers; 1], told: [Told; 3]) -> Result<(), Fail> {
+    same_phases(told)?;
+    let globals = [encode_ref(Ref::Disk(5)), encode_ref(Ref::Stale(1))];
+    same(
+        (heap.globals.items.as_slice(), heap.scions.get(1), held),
+        (globals.as_slice(), Some((1, 1)), third_holds(1)),
+    )
+}
+
+/// Collects a heap three times, once in each phase. Answers what is told, and what registers hold then.
+fn collect_in_phases(
     alloc: Global,
     heap: Heap,
-    held: &mut [Registers],
-    disk: &mut StaleSpace<'_, D>,
-    plan: &mut Plan,
-    force: bool,
-    blank: Blank,
-) -> Result<(Heap, Journal), MoveRefusal>
-    requires name { blank.name ≡ L.name }
-    requires parts { blank.parts ≡ L.parts }
-    requires some { 0 < blank.parts }
-    requires formed { IsFormedOn heap held.old disk.old.end }
-    ensures { IfOk result (λ done. IsFormedOn done.0 held.new disk.new.end) }
+    disk: &mut StaleSpace<'_, SteadyDisk>,
+) -> Result<(Heap, ([Told; 3], [Registers; 1])), Fail>
+    requires { IsFormedOn heap (third_holds 5) disk.old.end }
 {
-    let mut steps = Steps::<L>::new(blank);
-    collect_planned(alloc, heap, held, disk, plan, force, &mut steps)
-}
-
-/// Makes a planned collection.
-fn collect<D: StaleDisk>(
-    alloc: Global,
-    heap: Heap,
-    held: &mut [Registers],
-    disk: &mut StaleSpace<'_, D>,
-    plan: &mut Plan,
-    force: bool,
-) -> Result<(Heap, Journal), MoveRefusal>
-    requires { IsFormedOn heap held.old disk.old.end }
-    ensures { IfOk result (λ done. IsFormedOn done.0 held.new disk.new.end) }
-{
-    collect_uncounted::<D, Brand>(alloc, heap, held, disk, plan, force, Blank::new(1))
-}
-
-/// Collects the heap of `box_and_leaf_back` three times, once in each phase.
-fn three_phases(alloc: Global, disk: &mut SteadyDisk) -> Result<Heap, Fail> {
-    let (mut heap, mut held) = box_and_leaf_back(alloc)?;
-    let mut stale = StaleSpace::new(disk, 6);
-    let home = stale.reserve_home(LEAF)?;
+    let mut held = third_holds(5);
     let mut plan = EAGER;
-    for (phase, live, bodies, stubs, end, next) in [
-        (Phase::Inactive, 5, 0, 1, 3, Phase::Mark),
-        (Phase::Mark, 5, 0, 0, 3, Phase::Move),
-        (Phase::Move, 2, 1, 0, 6, Phase::Move),
-    ] {
-        let made = collect(alloc, heap, &mut held, &mut stale, &mut plan, false);
-        let Ok((collected, journal)) = made else {
-            return Err("refused".into());
-        };
-        heap = collected;
-        let wanted = Journal {
-            phase,
-            held: 2,
-            live,
-            bodies,
-            stubs,
-            end,
-        };
-        same((journal, plan.next, stale.end()), (wanted, next, end))?;
-    }
-    same(home, 1)?;
-    Ok(heap)
+    let (heap, first) = collect_told(alloc, heap, &mut held, disk, &mut plan, false)?;
+    let (heap, second) = collect_told(alloc, heap, &mut held, disk, &mut plan, false)?;
+    let (heap, third) = collect_told(alloc, heap, &mut held, disk, &mut plan, false)?;
+    Ok((heap, ([first, second, third], held)))
 }
 
-/// Fails where the box has not left, or the disk is not as it is to be then.
-fn same_leaf(heap: &Heap, disk: &SteadyDisk) -> Result<(), Fail> {
-    let globals = [encode_ref(Ref::Disk(3))];
-    same(heap.globals.items.as_slice(), globals.as_slice())?;
-    same(heap.scions.get(1), Some((1, 1)))?;
-    // The Stub of the leaf, and the Body of the box, whose slot has the home of the leaf.
-    let image = [0, 4_294_967_298, 1, 12_884_902_145, 0, 7];
-    same(disk.image.as_slice(), image.as_slice())?;
-    same(disk.writes, 2)
+/// Collects the heap in which the pair came back in each phase, and compares what is told and what it is then.
+fn expect_phases(alloc: Global, disk: &mut SteadyDisk) -> Result<(), Fail> {
+    let mut stale = StaleSpace::new(disk, 9);
+    same(stale.reserve_home(PAIR)?, 1)?;
+    let heap = box_and_pair_back(alloc)?;
+    let (heap, (told, held)) = collect_in_phases(alloc, heap, &mut stale)?;
+    let compared = same_left(&heap, held, told);
+    drop(heap);
+    compared
 }
 
 #[test]
-fn the_leaf_is_settled_once_and_the_box_leaves_in_the_third_phase(
+fn the_pair_is_settled_once_and_the_box_leaves_in_the_third_phase(
     rt: HostRuntime,
 ) -> Result<(), Fail> {
     let alloc = rt.alloc();
     let mut disk = SteadyDisk::new(alloc);
-    let heap = three_phases(alloc, &mut disk)?;
-    same_leaf(&heap, &disk)
+    expect_phases(alloc, &mut disk)?;
+    // The Stub of the pair, and the Body of the box, whose slots have the homes of the pair and of itself.
+    let image = [0, 4_295_033_090, 1, 0, 0, 21_474_836_993, 0, 7, 23];
+    same((disk.image.as_slice(), disk.writes), (image.as_slice(), 2))
+}
+
+/// Makes a forced collection of the same heap. Answers the home of the pair besides.
+fn force(alloc: Global, disk: &mut SteadyDisk) -> Result<(u32, Told), Fail> {
+    let mut stale = StaleSpace::new(disk, 9);
+    let home = stale.reserve_home(PAIR)?;
+    let heap = box_and_pair_back(alloc)?;
+    let (heap, (told, _held)) = collect_forced(alloc, heap, &mut stale)?;
+    drop(heap);
+    Ok((home, told))
 }
 
 #[test]
 fn a_forced_collection_is_a_move_and_counts_what_it_settled(rt: HostRuntime) -> Result<(), Fail> {
     let alloc = rt.alloc();
-    let (heap, mut held) = box_and_leaf_back(alloc)?;
     let mut disk = SteadyDisk::new(alloc);
-    let mut stale = StaleSpace::new(&mut disk, 6);
-    let home = stale.reserve_home(LEAF)?;
-    let mut plan = EAGER;
-    let made = collect(alloc, heap, &mut held, &mut stale, &mut plan, true);
-    let Ok((_heap, journal)) = made else {
-        return Err("refused".into());
-    };
+    let told = force(alloc, &mut disk)?;
     let wanted = Journal {
         phase: Phase::Move,
-        held: 2,
-        live: 2,
+        held: 4,
+        live: 4,
         bodies: 1,
         stubs: 1,
-        end: 6,
+        end: 9,
     };
-    let got = (home, journal, plan.next, disk.writes);
-    same(got, (1, wanted, Phase::Move, 2))
+    same((told, disk.writes), ((1, (wanted, Phase::Move, 9)), 2))
+}
+
+/// Collects the same heap, and expects that a write fails. Answers the home of the pair.
+fn expect_given_up(alloc: Global, disk: &mut MemDisk) -> Result<u32, Fail> {
+    let mut stale = StaleSpace::new(disk, 9);
+    let home = stale.reserve_home(PAIR)?;
+    let heap = box_and_pair_back(alloc)?;
+    expect_fault(alloc, heap, &mut stale, false)?;
+    Ok(home)
 }
 
 #[test]
 fn a_failing_stub_gives_the_heap_up_and_leaves_the_plan(rt: HostRuntime) -> Result<(), Fail> {
     let alloc = rt.alloc();
-    let (heap, mut held) = box_and_leaf_back(alloc)?;
-    let mut disk = MemDisk::new(alloc);
-    disk.fail_writes.push(1)?;
-    let mut stale = StaleSpace::new(&mut disk, 6);
-    let home = stale.reserve_home(LEAF)?;
-    let mut plan = EAGER;
-    let made = collect(alloc, heap, &mut held, &mut stale, &mut plan, false);
-    let Err(MoveRefusal::DiskFault) = made else {
-        return Err("no write failed".into());
-    };
-    same(held, [Registers { regs: [0; 16] }])?;
-    same((home, plan, disk.writes), (1, EAGER, 1))
+    let mut disk = failing(alloc)?;
+    let home = expect_given_up(alloc, &mut disk)?;
+    same((home, disk.writes), (1, 1))
 }
 
-/// Fails where the leaf is not settled, as the disk is to tell, or the box has not stayed.
-fn same_both(heap: &Heap, disk: &SteadyDisk) -> Result<(), Fail> {
-    let words = leaf_and_box(encode_home(Some(HomeWord { home: 1, scion: 1 })));
-    same(used_words(&heap.space), words.as_slice())?;
-    same(heap.scions.get(1), Some((1, 1)))?;
-    same(heap.forward.items.as_slice(), [0].as_slice())?;
-    same(disk.image.as_slice(), [0, 4_294_967_298, 1].as_slice())
+/// Fails where the pair is not settled, the box has not stayed, or something else is told than that the disk lacks a word.
+fn same_settled(heap: &Heap, told: ToldFull) -> Result<(), Fail> {
+    let full = DiskFull {
+        end: 5,
+        need: 4,
+        limit: 8,
+    };
+    same_full(told, full)?;
+    let words = box_and_pair_words(encode_home(Some(HomeWord { home: 1, scion: 1 })));
+    same(
+        (
+            used_words(&heap.space),
+            heap.scions.get(1),
+            heap.forward.items.as_slice(),
+        ),
+        (words.as_slice(), Some((1, 5)), [0].as_slice()),
+    )
+}
+
+/// Makes a forced collection of the same heap, for which the disk lacks room, and compares what is handed back.
+fn expect_settled(alloc: Global, disk: &mut SteadyDisk) -> Result<(), Fail> {
+    let mut stale = StaleSpace::new(disk, 8);
+    same(stale.reserve_home(PAIR)?, 1)?;
+    let heap = box_and_pair_back(alloc)?;
+    let (heap, told) = collect_full(alloc, heap, &mut stale)?;
+    let compared = same_settled(&heap, told);
+    drop(heap);
+    compared
 }
 
 #[test]
 fn a_disk_without_room_leaves_a_settled_heap_and_the_plan(rt: HostRuntime) -> Result<(), Fail> {
     let alloc = rt.alloc();
-    let (heap, mut held) = box_and_leaf_back(alloc)?;
     let mut disk = SteadyDisk::new(alloc);
-    let mut stale = StaleSpace::new(&mut disk, 5);
-    let home = stale.reserve_home(LEAF)?;
-    let mut plan = EAGER;
-    let made = collect(alloc, heap, &mut held, &mut stale, &mut plan, true);
-    let Err(MoveRefusal::DiskFull { heap, full }) = made else {
-        return Err("not refused for want of room".into());
-    };
-    let wanted = DiskFull {
-        end: 3,
-        need: 3,
-        limit: 5,
-    };
-    same((home, full, plan, held), (1, wanted, EAGER, leaf_held()))?;
-    same_both(&heap, &disk)
+    expect_settled(alloc, &mut disk)?;
+    // The Stub of the pair.
+    same(disk.image.as_slice(), [0, 4_295_033_090, 1].as_slice())
 }

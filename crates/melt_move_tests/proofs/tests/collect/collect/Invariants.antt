@@ -1,4 +1,0 @@
-use Rattle.melt_move_tests.proofs.tests.collect.collect.Given as goal
-
-abbrev pub ghosts-collect_uncounted : goal.ghosts-collect_uncounted
-ghosts-collect_uncounted g a = record { name = a.blank.name; parts = a.blank.parts }
