@@ -43,10 +43,10 @@ pub fn heap_of(
     requires fits { length words.now ≤ count }
     ensures { IfOk result (IsHeapOf count words.now addresses globals.now forward.now) }
 {
-    let space = space_of(alloc, count, words)?;
-    let scions = ScionTable::new(alloc, count / 2)?;
     let globals = copy_of(alloc, globals)?;
     let forward = copy_of(alloc, forward)?;
+    let space = space_of(alloc, count, words)?;
+    let scions = ScionTable::new(alloc, count / 2)?;
     let homes = HomeNames::new(alloc);
     Ok(Heap {
         space,

@@ -1,6 +1,6 @@
-ghost use Rattle.std.specs.Prelude.{◌≡◌, ◌<◌, ◌∷◌, [], length, replicate, IfOk, OnOk};
+ghost use Rattle.std.specs.Prelude.{◌≡◌, ◌<◌, ◌∷◌, [], length, replicate, true, IfOk, OnOk};
 ghost use Rattle.melt_word.specs.Words.{IsShape, header_word};
-ghost use Rattle.melt_scion.specs.Heaps.{IsFormed, IsSettled};
+ghost use Rattle.melt_scion.specs.Heaps.{IsFormed, IsNewHeap, IsSettled};
 ghost use Rattle.melt_copy.specs.Copying.{IsCopying};
 ghost use Rattle.melt_copy.specs.Settling.{IsFormedTo};
 
@@ -144,11 +144,15 @@ fn collect_to(
 {
     let count = heap.space.words();
     let made = collect_uncounted::<Brand>(alloc, heap, held, journal.phase, Blank::new(1))?;
-    same(made, journal)?;
-    same(heap.space.words(), count)?;
-    same(used_words(&heap.space), words)?;
-    same(heap.globals.items.as_slice(), globals)?;
-    same(&*held, registers)
+    same((made, heap.space.words()), (journal, count))?;
+    same(
+        (
+            used_words(&heap.space),
+            heap.globals.items.as_slice(),
+            &*held,
+        ),
+        (words, globals, registers),
+    )
 }
 
 /// Fails where an object has another number than is wanted at its address.
@@ -171,73 +175,92 @@ fn same_places(forwarding: &Forwarding, wanted: &[(u32, u32)]) -> Result<(), Fai
     Ok(())
 }
 
+/// Collects a new heap of 4 words with one global.
+fn collect_none(alloc: Global, heap: &mut Heap) -> Result<(), Fail>
+    requires { IsNewHeap 4 1 2 true heap.old }
+{
+    let mut held = [Registers { regs: [0; 16] }];
+    let journal = journal_of(Phase::Inactive, 0, 0);
+    let registers = [Registers { regs: [0; 16] }];
+    collect_to(alloc, heap, &mut held, journal, &[], &[0], &registers)
+}
+
 #[test]
 fn a_heap_without_objects_stays_so(rt: HostRuntime) -> Result<(), Fail> {
     let alloc = rt.alloc();
     let mut heap = Heap::new(alloc, 4, 1, 2, true)?;
-    let mut held = [Registers { regs: [0; 16] }];
-    let journal = journal_of(Phase::Inactive, 0, 0);
-    let registers = [Registers { regs: [0; 16] }];
-    collect_to(alloc, &mut heap, &mut held, journal, &[], &[0], &registers)
+    let compared = collect_none(alloc, &mut heap);
+    // Each heap here is let go by name, which is proved once: one that goes at the end of its function is proved there, part
+    // by part.
+    drop(heap);
+    compared
 }
 
-/// Collects the heap of `three_objects`, and marks nothing.
-fn collect_three(alloc: Global, heap: &mut Heap, held: &mut [Registers]) -> Result<(), Fail>
+/// Collects the heap of `three_objects` in a phase. Behind it the leaf has the stale bit or has not, and the global refers
+/// to it by this word.
+fn collect_three(
+    alloc: Global,
+    heap: &mut Heap,
+    held: &mut [Registers],
+    phase: Phase,
+    stale: bool,
+    global: u64,
+) -> Result<(), Fail>
     requires formed { IsFormed heap.old held.old }
     requires settled { IsSettled heap.old }
+    requires phase { IsCopying phase }
 {
-    let journal = journal_of(Phase::Inactive, 6, 4);
+    let journal = journal_of(phase, 6, 4);
     let pair = header(PAIR, false);
-    let leaf = header(LEAF, false);
+    let leaf = header(LEAF, stale);
     let words = [pair, 0, encode_ref(Ref::Stale(5)), 9, leaf, 0];
-    let globals = [encode_ref(Ref::Clean(5))];
-    collect_to(
-        alloc,
-        heap,
-        held,
-        journal,
-        &words,
-        &globals,
-        &second_holds(1),
-    )
+    let registers = second_holds(1);
+    collect_to(alloc, heap, held, journal, &words, &[global], &registers)?;
+    let numbers = [(1, Some(1)), (4, None), (5, Some(2)), (8, None)];
+    same_numbers(&heap.names, &numbers)
 }
 
 #[test]
-fn what_is_reached_moves_to_the_front(rt: HostRuntime) -> Result<(), Fail> {
+fn what_is_reached_moves_to_the_front_with_its_numbers(rt: HostRuntime) -> Result<(), Fail> {
     let alloc = rt.alloc();
     let (mut heap, mut held) = three_objects(alloc)?;
-    collect_three(alloc, &mut heap, &mut held)
-}
-
-#[test]
-fn numbers_go_with_what_is_reached(rt: HostRuntime) -> Result<(), Fail> {
-    let alloc = rt.alloc();
-    let (mut heap, mut held) = three_objects(alloc)?;
-    collect_three(alloc, &mut heap, &mut held)?;
-    let wanted = [(1, Some(1)), (4, None), (5, Some(2)), (8, None)];
-    same_numbers(&heap.names, &wanted)
+    let global = encode_ref(Ref::Clean(5));
+    let phase = Phase::Inactive;
+    let compared = collect_three(alloc, &mut heap, &mut held, phase, false, global);
+    drop(heap);
+    compared
 }
 
 #[test]
 fn mark_leaves_only_held_objects_without_the_stale_bit(rt: HostRuntime) -> Result<(), Fail> {
     let alloc = rt.alloc();
     let (mut heap, mut held) = three_objects(alloc)?;
-    let journal = journal_of(Phase::Mark, 6, 4);
-    let pair = header(PAIR, false);
-    let leaf = header(LEAF, true);
-    let words = [pair, 0, encode_ref(Ref::Stale(5)), 9, leaf, 0];
-    let globals = [encode_ref(Ref::Stale(5))];
-    let registers = second_holds(1);
-    collect_to(
-        alloc, &mut heap, &mut held, journal, &words, &globals, &registers,
-    )
+    let global = encode_ref(Ref::Stale(5));
+    let phase = Phase::Mark;
+    let compared = collect_three(alloc, &mut heap, &mut held, phase, true, global);
+    drop(heap);
+    compared
+}
+
+/// Collects the heap of `two_leaves`.
+fn collect_leaf(alloc: Global, heap: &mut Heap, held: &mut [Registers]) -> Result<(), Fail>
+    requires formed { IsFormed heap.old held.old }
+    requires settled { IsSettled heap.old }
+{
+    let journal = journal_of(Phase::Inactive, 2, 0);
+    let words = [header(LEAF, false), encode_home(Some(HOME))];
+    let registers = [Registers { regs: [0; 16] }];
+    collect_to(alloc, heap, held, journal, &words, &[], &registers)?;
+    same_leaf(heap)
 }
 
 /// Fails where the leaf that a scion named is not at 1, with its scion and its number.
 fn same_leaf(heap: &Heap) -> Result<(), Fail> {
-    same(heap.scions.first(), Some(1))?;
     let scions = [heap.scions.get(1), heap.scions.get(2)];
-    same(scions, [Some((HOME.home, 1)), None])?;
+    same(
+        (heap.scions.first(), scions),
+        (Some(1), [Some((HOME.home, 1)), None]),
+    )?;
     same_numbers(&heap.names, &[(1, Some(0)), (3, None)])
 }
 
@@ -245,30 +268,35 @@ fn same_leaf(heap: &Heap) -> Result<(), Fail> {
 fn an_object_that_a_scion_alone_names_stays(rt: HostRuntime) -> Result<(), Fail> {
     let alloc = rt.alloc();
     let (mut heap, mut held) = two_leaves(alloc)?;
-    let journal = journal_of(Phase::Inactive, 2, 0);
-    let words = [header(LEAF, false), encode_home(Some(HOME))];
-    let registers = [Registers { regs: [0; 16] }];
-    collect_to(
-        alloc,
-        &mut heap,
-        &mut held,
-        journal,
-        &words,
-        &[],
-        &registers,
-    )?;
-    same_leaf(&heap)
+    let compared = collect_leaf(alloc, &mut heap, &mut held);
+    drop(heap);
+    compared
 }
 
-/// Fails where other objects were found than are wanted, of other sizes, or they go to other places.
+/// Finds what can be reached in a heap. Fails where other objects are found than are wanted, of other sizes, or they go to
+/// other places.
+fn expect_live(
+    alloc: Global,
+    heap: &Heap,
+    held: &[Registers],
+    moves: &[Relocation],
+    sizes: (u32, usize, u32),
+    places: &[(u32, u32)],
+) -> Result<(), Fail>
+    requires { IsFormed heap.now held.now }
+{
+    let live = reach_uncounted::<Brand>(alloc, heap, held, Blank::new(1))?;
+    same_live(&live, moves, sizes, places)
+}
+
 fn same_live(
     live: &LiveSet,
     moves: &[Relocation],
     sizes: (u32, usize, u32),
     places: &[(u32, u32)],
 ) -> Result<(), Fail> {
-    same(live.forwarding.moves.as_slice(), moves)?;
-    same((live.forwarding.next, live.front, live.held_words), sizes)?;
+    let found = (live.forwarding.next, live.front, live.held_words);
+    same((live.forwarding.moves.as_slice(), found), (moves, sizes))?;
     same_places(&live.forwarding, places)
 }
 
@@ -276,7 +304,6 @@ fn same_live(
 fn what_is_reached_is_found_once_and_the_held_first(rt: HostRuntime) -> Result<(), Fail> {
     let alloc = rt.alloc();
     let (heap, held) = three_objects(alloc)?;
-    let live = reach_uncounted::<Brand>(alloc, &heap, &held, Blank::new(1))?;
     let pair = Relocation {
         from: 4,
         to: 1,
@@ -288,20 +315,24 @@ fn what_is_reached_is_found_once_and_the_held_first(rt: HostRuntime) -> Result<(
         shape: LEAF,
     };
     let places = [(0, 0), (1, 0), (4, 1), (5, 0), (8, 5), (9, 0), (10, 0)];
-    same_live(&live, &[pair, leaf], (7, 1, 4), &places)
+    let compared = expect_live(alloc, &heap, &held, &[pair, leaf], (7, 1, 4), &places);
+    drop(heap);
+    compared
 }
 
 #[test]
 fn an_object_that_a_scion_alone_names_is_found(rt: HostRuntime) -> Result<(), Fail> {
     let alloc = rt.alloc();
     let (heap, held) = two_leaves(alloc)?;
-    let live = reach_uncounted::<Brand>(alloc, &heap, &held, Blank::new(1))?;
     let leaf = Relocation {
         from: 3,
         to: 1,
         shape: LEAF,
     };
-    same_live(&live, &[leaf], (3, 0, 0), &[(1, 0), (2, 0), (3, 1)])
+    let places = [(1, 0), (2, 0), (3, 1)];
+    let compared = expect_live(alloc, &heap, &held, &[leaf], (3, 0, 0), &places);
+    drop(heap);
+    compared
 }
 
 #[test]
@@ -359,27 +390,38 @@ fn reserve_two<D: StaleDisk>(space: &mut StaleSpace<'_, D>) -> Result<(), Fail>
 /// The words of the disk behind both are settled: the Stub of each leaf, with its scion.
 const STUBS: [u64; 5] = [0, 4_294_967_298, 1, 12_884_901_890, 2];
 
-/// Settles the heap of `two_forwarded`.
+/// Settles the heap of `two_forwarded` over a disk, and compares what is settled, and the heap then.
 fn settle_two(heap: &mut Heap, disk: &mut SteadyDisk) -> Result<(), Fail>
     requires { IsFormedTo heap.old 5 }
 {
     let mut space = StaleSpace::new(disk, 9);
     reserve_two(&mut space)?;
-    same(settle(heap, &mut space), Ok(2))?;
-    same(heap.forward.items.as_slice(), [0, 0, 0].as_slice())?;
+    let settled = settle(heap, &mut space);
     let scions = [heap.scions.get(1), heap.scions.get(2)];
-    same(scions, [Some((1, 1)), Some((3, 3))])?;
+    same((settled, scions), (Ok(2), [Some((1, 1)), Some((3, 3))]))?;
     let words = [1, 4_294_967_300, 1, 12_884_901_896];
-    same(used_words(&heap.space), words.as_slice())
+    same(
+        (heap.forward.items.as_slice(), used_words(&heap.space)),
+        ([0, 0, 0].as_slice(), words.as_slice()),
+    )
+}
+
+/// The same over a new disk, of which the words are compared too.
+fn expect_two(alloc: Global, heap: &mut Heap) -> Result<(), Fail>
+    requires { IsFormedTo heap.old 5 }
+{
+    let mut disk = SteadyDisk::new(alloc);
+    settle_two(heap, &mut disk)?;
+    same(disk.image.as_slice(), STUBS.as_slice())
 }
 
 #[test]
 fn objects_that_came_back_are_settled(rt: HostRuntime) -> Result<(), Fail> {
     let alloc = rt.alloc();
     let mut heap = two_forwarded(alloc)?;
-    let mut disk = SteadyDisk::new(alloc);
-    settle_two(&mut heap, &mut disk)?;
-    same(disk.image.as_slice(), STUBS.as_slice())
+    let compared = expect_two(alloc, &mut heap);
+    drop(heap);
+    compared
 }
 
 /// Settles the heap of `two_forwarded` over a disk of which the second write fails, and then once more.
@@ -388,23 +430,36 @@ fn settle_twice(heap: &mut Heap, disk: &mut MemDisk) -> Result<(), Fail>
 {
     let mut space = StaleSpace::new(disk, 9);
     reserve_two(&mut space)?;
-    same(settle(heap, &mut space), Err(Failed))?;
+    let refused = (settle(heap, &mut space), heap.scions.get(2));
     let forward = [0, 0, 12_884_901_900];
-    same(heap.forward.items.as_slice(), forward.as_slice())?;
-    same(heap.scions.get(2), None)?;
-    same(settle(heap, &mut space), Ok(1))?;
-    same(heap.scions.get(2), Some((3, 3)))
+    same(
+        (refused, heap.forward.items.as_slice()),
+        ((Err(Failed), None), forward.as_slice()),
+    )?;
+    let settled = (settle(heap, &mut space), heap.scions.get(2));
+    same(settled, (Ok(1), Some((3, 3))))
+}
+
+/// The same over a new disk, of which the words and the faults are compared too.
+fn expect_fault(alloc: Global, heap: &mut Heap) -> Result<(), Fail>
+    requires { IsFormedTo heap.old 5 }
+{
+    let mut disk = MemDisk::new(alloc);
+    disk.fail_writes.push(2)?;
+    settle_twice(heap, &mut disk)?;
+    same(
+        (disk.image.as_slice(), disk.writes, disk.faults.count()),
+        (STUBS.as_slice(), 3, 1),
+    )
 }
 
 #[test]
 fn a_stub_that_cannot_be_written_leaves_its_object_forwarded(rt: HostRuntime) -> Result<(), Fail> {
     let alloc = rt.alloc();
     let mut heap = two_forwarded(alloc)?;
-    let mut disk = MemDisk::new(alloc);
-    disk.fail_writes.push(2)?;
-    settle_twice(&mut heap, &mut disk)?;
-    same(disk.image.as_slice(), STUBS.as_slice())?;
-    same((disk.writes, disk.faults.count()), (3, 1))
+    let compared = expect_fault(alloc, &mut heap);
+    drop(heap);
+    compared
 }
 
 #[test]

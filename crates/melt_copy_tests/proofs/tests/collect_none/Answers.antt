@@ -1,11 +1,11 @@
 use Rattle.std.proofs.Common.{lit≤}
 use Rattle.std.specs.Prelude.{true}
 use Rattle.melt_copy_tests.proofs.Building.{new_formed, new_settled, none_held}
-use Rattle.melt_copy_tests.proofs.tests.a_heap_without_objects_stays_so.Goals as goal
+use Rattle.melt_copy_tests.proofs.tests.collect_none.Goals as goal
 
 pub collect_to-requires-clause-formed : goal.collect_to-requires-clause-formed
 collect_to-requires-clause-formed c =
-    new_formed 4 1 2 c.in_ok-heap.heap _ (lit≤ tt) c.in_ok-heap.ensures none_held
+    new_formed 4 1 2 c.args.heap.now _ (lit≤ tt) c.requires none_held
 
 pub collect_to-requires-clause-settled : goal.collect_to-requires-clause-settled
-collect_to-requires-clause-settled c = new_settled 4 1 2 true c.in_ok-heap.heap c.in_ok-heap.ensures
+collect_to-requires-clause-settled c = new_settled 4 1 2 true c.args.heap.now c.requires

@@ -1,4 +1,0 @@
-use Rattle.melt_copy_tests.proofs.tests.an_object_that_a_scion_alone_names_is_found.Given as goal
-
-abbrev pub ghosts-reach_uncounted : goal.ghosts-reach_uncounted
-ghosts-reach_uncounted a = record { name = a.blank.name; parts = a.blank.parts }
