@@ -16,7 +16,7 @@ use std::thread::Threads;
 const TURNS: u32 = 10_000_000;
 
 /// One step of the program of a thread.
-#[derive(Clone, Copy, Debug)]
+#[derive(Clone, Copy)]
 pub enum Step {
     Call(Op),
     /// Raises a flag.
@@ -168,7 +168,7 @@ pub(crate) fn play_all<T: Threads + Wait + Sync, R: RecordReader + Send>(
     globals: u8,
     mutators: &mut [Mutator<R>],
     signals: &Signals,
-    programs: &[Vec<Step>],
+    programs: &[&[Step]],
 ) -> [Log; 8]
     requires globals { globals ≡ epoch.now.words.start.began.globals }
     requires begun { HasBegun R.image epoch.now.words mutators.old }

@@ -36,13 +36,6 @@ pub fn call<R: RecordReader>(
     ensures may { MayCall R.image epoch.now.words m.new }
 {
     match op {
-        Op::New { dst, refs, nums } if dst < 16 && refs <= MAX_PARTS && nums <= MAX_PARTS => {
-            Some(epoch.make(m, dst, refs, nums))
-        }
-        Op::Load { dst, src, i } if dst < 16 && src < 16 => Some(epoch.load(m, dst, src, i)),
-        Op::Store { obj, i, src } if obj < 16 && src < 16 => Some(epoch.store(m, obj, i, src)),
-        Op::Get { src, j } if src < 16 => Some(epoch.get(m, src, j)),
-        Op::Put { obj, j, v } if obj < 16 => Some(epoch.put(m, obj, j, v)),
         Op::GLoad { dst, g } if dst < 16 && g < globals => Some(epoch.gload(m, dst, g)),
         Op::GStore { g, src } if g < globals && src < 16 => Some(epoch.gstore(m, g, src)),
         Op::Same { a, b } if a < 16 && b < 16 => Some(Ok(m.same(a, b))),
@@ -52,6 +45,27 @@ pub fn call<R: RecordReader>(
             epoch.ask(m);
             Some(Ok(Reply::Done))
         }
+        _ => call_object(epoch, m, op),
+    }
+}
+
+/// Makes a call of one object, or none where a register is not there, or the object would be too large.
+fn call_object<R: RecordReader>(
+    epoch: &Epoch,
+    m: &mut Mutator<R>,
+    op: Op,
+) -> Option<Result<Reply, Refusal>>
+    requires may { MayCall R.image epoch.now.words m.old }
+    ensures may { MayCall R.image epoch.now.words m.new }
+{
+    match op {
+        Op::New { dst, refs, nums } if dst < 16 && refs <= MAX_PARTS && nums <= MAX_PARTS => {
+            Some(epoch.make(m, dst, refs, nums))
+        }
+        Op::Load { dst, src, i } if dst < 16 && src < 16 => Some(epoch.load(m, dst, src, i)),
+        Op::Store { obj, i, src } if obj < 16 && src < 16 => Some(epoch.store(m, obj, i, src)),
+        Op::Get { src, j } if src < 16 => Some(epoch.get(m, src, j)),
+        Op::Put { obj, j, v } if obj < 16 => Some(epoch.put(m, obj, j, v)),
         _ => None,
     }
 }
@@ -79,12 +93,20 @@ fn call_each<R: RecordReader>(
     is_answered
 }
 
+/// The address in this register of a mutator, or 0 where there is no such register.
+fn held_by<R>(mutator: &Mutator<R>, r: usize) -> u32 {
+    match mutator.registers().regs.get(r) {
+        Some(address) => *address,
+        None => 0,
+    }
+}
+
 /// The addresses in this register of eight mutators, with 0 for nothing.
 fn held_in<R>(mutators: &[Mutator<R>], r: usize) -> [u32; 8] {
     let mut held = [0; 8];
-    for (held, mutator) in held.iter_mut().zip(mutators) {
-        if let Some(address) = mutator.registers().regs.get(r) {
-            *held = *address;
+    for (at, mutator) in mutators.iter().enumerate() {
+        if at < 8 {
+            held[at] = held_by(mutator, r);
         }
     }
     held
@@ -104,7 +126,7 @@ impl<'d, D: StaleDisk, R: RecordReader> Stage<'d, D, R> {
         &mut self,
         rt: &T,
         signals: &Signals,
-        programs: &[Vec<Step>],
+        programs: &[&[Step]],
     ) -> [Log; 8]
     where
         R: Send,

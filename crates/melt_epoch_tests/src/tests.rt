@@ -6,5 +6,6 @@ mod judge;
 mod judged;
 mod random;
 mod readers;
+mod short;
 mod trial;
 mod trials;

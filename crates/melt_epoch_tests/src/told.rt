@@ -6,7 +6,7 @@ use melt_model::{Op, Reply};
 pub const MOST: usize = 16;
 
 /// A call, what it came to, and when it was made, by a clock that all threads share.
-#[derive(Clone, Copy, Debug)]
+#[derive(Clone, Copy)]
 pub struct Told {
     pub op: Op,
     pub result: Result<Reply, Refusal>,

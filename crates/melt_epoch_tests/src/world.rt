@@ -61,23 +61,37 @@ fn lend_one<D: StaleDisk>(alloc: Global, disk: &mut StaleSpace<'_, D>) -> Result
     }
 }
 
-/// Lends a reader for each of eight threads.
+/// Lends two readers.
+fn lend_two<D: StaleDisk>(
+    alloc: Global,
+    disk: &mut StaleSpace<'_, D>,
+) -> Result<[D::Reader; 2], Trouble>
+    ensures { disk.new.end ≡ disk.old.end }
+{
+    Ok([lend_one(alloc, disk)?, lend_one(alloc, disk)?])
+}
+
+/// Lends four readers.
+fn lend_four<D: StaleDisk>(
+    alloc: Global,
+    disk: &mut StaleSpace<'_, D>,
+) -> Result<[D::Reader; 4], Trouble>
+    ensures { disk.new.end ≡ disk.old.end }
+{
+    let ([a, b], [c, d]) = (lend_two(alloc, disk)?, lend_two(alloc, disk)?);
+    Ok([a, b, c, d])
+}
+
+/// Lends a reader for each of eight threads. Each of three steps lends twice as many, so that few readers are there
+/// where one is refused.
 fn lend_all<D: StaleDisk>(
     alloc: Global,
     disk: &mut StaleSpace<'_, D>,
 ) -> Result<[D::Reader; 8], Trouble>
     ensures { disk.new.end ≡ disk.old.end }
 {
-    Ok([
-        lend_one(alloc, disk)?,
-        lend_one(alloc, disk)?,
-        lend_one(alloc, disk)?,
-        lend_one(alloc, disk)?,
-        lend_one(alloc, disk)?,
-        lend_one(alloc, disk)?,
-        lend_one(alloc, disk)?,
-        lend_one(alloc, disk)?,
-    ])
+    let ([a, b, c, d], [e, f, g, h]) = (lend_four(alloc, disk)?, lend_four(alloc, disk)?);
+    Ok([a, b, c, d, e, f, g, h])
 }
 
 /// Whether an epoch can begin on the heap: no object came back since the last collection, and there are no names.
@@ -90,6 +104,26 @@ fn is_ready(heap: &Heap) -> bool
         && globals <= 255
         && forwards <= 65_536
         && heap.forward.items.iter().all(|word| *word == 0)
+}
+
+/// Whether one of these forwarding words has this home.
+fn is_among(words: &[u64], home: u64) -> bool {
+    for word in words {
+        if *word >> 32 == home {
+            return true;
+        }
+    }
+    false
+}
+
+/// Whether no two of these forwarding words have the same home.
+fn have_own_homes(words: &[u64]) -> bool {
+    for (at, word) in words.iter().enumerate() {
+        if 0 < *word && is_among(&words[..at], *word >> 32) {
+            return false;
+        }
+    }
+    true
 }
 
 /// The mutator of a thread, with a reader.
@@ -134,6 +168,29 @@ fn begin_untold<R: RecordReader>(
     Epoch::begin(alloc, heap, Pass::new(), end, mutators)
 }
 
+/// Begins an epoch of eight threads with these readers, on a heap that is ready for it.
+fn begin_ready<'d, D: StaleDisk, R: RecordReader + Drop>(
+    alloc: Global,
+    world: World<'d, D>,
+    readers: [R; 8],
+) -> Result<Stage<'d, D, R>, Trouble>
+    requires formed { IsFormedOn world.heap [] world.disk.end }
+    requires ready { IsReadyHeap world.heap }
+    ensures { IfOk result
+        (λ stage. GoesOnStage R.image stage.epoch stage.mutators stage.globals stage.disk.end) }
+{
+    let World { heap, disk } = world;
+    let globals = heap.globals.items.len() as u8;
+    let mut mutators = new_mutators(readers);
+    let epoch = begin_untold(alloc, heap, disk.end(), &mut mutators)?;
+    Ok(Stage {
+        epoch,
+        mutators,
+        globals,
+        disk,
+    })
+}
+
 impl<'d, D: StaleDisk> World<'d, D> {
     /// A new heap of so many words, globals and forwarding words, over a disk without homes, of which a part before
     /// `limit` is used.
@@ -167,13 +224,11 @@ impl<'d, D: StaleDisk> World<'d, D> {
         ensures { IfSome result (λ count. count ≡ count_by (λ word. nat_lt 0 word) self.now.heap.forward) }
     {
         let words = &self.heap.forward.items;
-        for (at, word) in words.iter().enumerate() {
-            let home = *word >> 32;
-            if 0 < *word && words.iter().take(at).any(|other| *other >> 32 == home) {
-                return None;
-            }
+        if have_own_homes(words) {
+            Some(words.iter().filter(|word| 0 < **word).count())
+        } else {
+            None
         }
-        Some(words.iter().filter(|word| 0 < **word).count())
     }
 
     /// Collects in this phase.
@@ -204,19 +259,11 @@ impl<'d, D: StaleDisk> World<'d, D> {
         ensures { IfOk result
             (λ stage. GoesOnStage R.image stage.epoch stage.mutators stage.globals stage.disk.end) }
     {
-        let World { heap, disk } = self;
-        if !is_ready(&heap) {
-            return Err(Trouble::Unsettled);
+        if is_ready(&self.heap) {
+            begin_ready(alloc, self, readers)
+        } else {
+            Err(Trouble::Unsettled)
         }
-        let globals = heap.globals.items.len() as u8;
-        let mut mutators = new_mutators(readers);
-        let epoch = begin_untold(alloc, heap, disk.end(), &mut mutators)?;
-        Ok(Stage {
-            epoch,
-            mutators,
-            globals,
-            disk,
-        })
     }
 }
 

@@ -1,17 +1,19 @@
-ghost use Rattle.std.specs.Prelude.{◌≡◌, [], IfOk};
+ghost use Rattle.std.specs.Prelude.{◌≡◌, [], IfOk, None};
+ghost use Rattle.melt_epoch_tests.specs.Stages.{GoesOnStage};
 ghost use Rattle.melt_move.specs.Collecting.{IsFormedOn};
 
 use super::calls::{new, put};
+use super::short::Short;
 use crate::play::{Signals, Step};
+use crate::stage::Stage;
 use crate::told::{Log, Told};
 use crate::trouble::Trouble;
 use crate::world::World;
 use melt_core::Refusal;
-use melt_io::{Failed, MemDisk, RecordReader};
+use melt_io::{Failed, MemDisk, MemReader, RecordReader};
 use melt_model::{Op, Phase, Reply};
-use std::alloc::{AllocError, Global};
+use std::alloc::Global;
 use std::sync::{Arc, Wait};
-use std::test::Fail;
 use std::thread::Threads;
 
 /// What a reader does beside reading, at one of its reads, which count from 1.
@@ -30,7 +32,8 @@ pub(super) enum Flaw {
 #[derive(Drop)]
 pub(super) struct Flawed<R> {
     inner: R,
-    signals: Arc<Signals, Global>,
+    /// By which it waits, where that is its flaw.
+    signals: Option<Arc<Signals, Global>>,
     flaw: Flaw,
     reads: u64,
     faults: u64,
@@ -65,8 +68,10 @@ impl<R> Flawed<R> {
                 }
             }
             Flaw::Waits(read) if read == self.reads => {
-                self.signals.raise(0);
-                self.signals.await_flag(1);
+                if let Some(signals) = &self.signals {
+                    signals.raise(0);
+                    signals.await_flag(1);
+                }
             }
             Flaw::Fails(read) if read == self.reads => return false,
             _ => {}
@@ -84,6 +89,18 @@ pub(super) struct Before<'a> {
     pub(super) used: &'a [Op],
 }
 
+/// The calls that make the objects, each with one slot and its number, in the register of that number, and store them.
+fn first_calls(before: &Before<'_>) -> Short<Op> {
+    let mut calls = Short::new(Op::Collect);
+    for number in 0..before.objects {
+        let object = number + 1;
+        calls.push(new(object, 1, 1));
+        calls.push(put(object, 0, u64::from(object)));
+    }
+    calls.extend(before.stored);
+    calls
+}
+
 /// The heap behind that, with 8 globals.
 pub(super) fn world_behind<'d>(
     alloc: Global,
@@ -92,75 +109,84 @@ pub(super) fn world_behind<'d>(
 ) -> Result<World<'d, MemDisk>, Trouble>
     ensures { IfOk result (λ world. IsFormedOn world.heap [] world.disk.end) }
 {
-    let mut made = Vec::new(alloc);
-    for number in 0..before.objects {
-        for op in object(number + 1) {
-            made.push(op)?;
-        }
-    }
-    made.extend_from_slice(before.stored)?;
+    let made = first_calls(before);
     let world = World::new(alloc, disk, 1024, 512, 8, before.forwards)?;
-    let world = world.prepare(alloc, &made)?.collect(alloc, Phase::Mark)?;
+    let world = world.prepare(alloc, made.as_slice())?;
+    let world = world.collect(alloc, Phase::Mark)?;
     let world = world.prepare(alloc, before.used)?;
     world.collect(alloc, Phase::Move)
 }
 
-/// Makes an object with one slot and its number, in the register of that number.
-fn object(number: u8) -> [Op; 2] {
-    [new(number, 1, 1), put(number, 0, u64::from(number))]
+/// What threads were told, and what register `r` of each holds.
+#[derive(Clone, Copy)]
+pub(super) struct Seen {
+    pub(super) logs: [Log; 8],
+    pub(super) held: [u32; 8],
 }
 
-/// What threads were told, what register `r` of each holds, and the heap behind them.
+/// The same, and the heap behind them.
 #[derive(Drop)]
 pub(super) struct Ended<'d> {
-    pub(super) logs: Vec<Log>,
-    pub(super) held: [u32; 8],
+    pub(super) seen: Seen,
     pub(super) world: World<'d, MemDisk>,
 }
 
 /// The same, where the heap is done with.
-#[derive(Drop)]
+#[derive(Clone, Copy)]
 pub(super) struct Left {
     /// How many words were in use before the threads came.
     pub(super) used: u32,
-    pub(super) logs: Vec<Log>,
-    pub(super) held: [u32; 8],
+    pub(super) seen: Seen,
     /// How many objects came back from the disk.
     pub(super) returned: Option<usize>,
 }
 
-/// A reader with a flaw, before its first read.
-fn new_reader<R: Drop>(
-    inner: R,
-    signals: &Arc<Signals, Global>,
-    flaw: Flaw,
-) -> Result<Flawed<R>, AllocError> {
-    Ok(Flawed {
+/// A reader before its first read, with a flaw.
+fn new_reader<R>(inner: R, signals: Option<Arc<Signals, Global>>, flaw: Flaw) -> Flawed<R> {
+    Flawed {
         inner,
-        signals: Arc::try_clone(signals)?,
+        signals,
         flaw,
         reads: 0,
         faults: 0,
-    })
+    }
+}
+
+/// The same without a flaw.
+fn sound_reader<R>(inner: R) -> Flawed<R> {
+    new_reader(inner, None, Flaw::Nothing)
 }
 
 /// The readers of eight threads, of which the first has this flaw.
-fn first_flawed<R: Drop>(
-    readers: [R; 8],
+fn first_flawed<R>(readers: [R; 8], signals: Arc<Signals, Global>, flaw: Flaw) -> [Flawed<R>; 8] {
+    let [r0, r1, r2, r3, r4, r5, r6, r7] = readers;
+    [
+        new_reader(r0, Some(signals), flaw),
+        sound_reader(r1),
+        sound_reader(r2),
+        sound_reader(r3),
+        sound_reader(r4),
+        sound_reader(r5),
+        sound_reader(r6),
+        sound_reader(r7),
+    ]
+}
+
+/// Begins an epoch of threads of which the first has a reader with this flaw.
+fn begin_flawed<'d>(
+    alloc: Global,
+    world: World<'d, MemDisk>,
     signals: &Arc<Signals, Global>,
     flaw: Flaw,
-) -> Result<[Flawed<R>; 8], AllocError> {
-    let [r0, r1, r2, r3, r4, r5, r6, r7] = readers;
-    Ok([
-        new_reader(r0, signals, flaw)?,
-        new_reader(r1, signals, Flaw::Nothing)?,
-        new_reader(r2, signals, Flaw::Nothing)?,
-        new_reader(r3, signals, Flaw::Nothing)?,
-        new_reader(r4, signals, Flaw::Nothing)?,
-        new_reader(r5, signals, Flaw::Nothing)?,
-        new_reader(r6, signals, Flaw::Nothing)?,
-        new_reader(r7, signals, Flaw::Nothing)?,
-    ])
+) -> Result<Stage<'d, MemDisk, Flawed<MemReader>>, Trouble>
+    requires { IsFormedOn world.heap [] world.disk.end }
+    ensures { IfOk result
+        (λ stage. GoesOnStage (λ _. None) stage.epoch stage.mutators stage.globals stage.disk.end) }
+{
+    let mut world = world;
+    let signals = Arc::try_clone(signals)?;
+    let readers = world.lend(alloc)?;
+    world.begin(alloc, first_flawed(readers, signals, flaw))
 }
 
 /// Runs threads, of which the first has a reader with this flaw. At the end it looks at a register of each.
@@ -175,19 +201,33 @@ pub(super) fn run<'d, T: Threads + Wait + Sync>(
     requires { IsFormedOn world.heap [] world.disk.end }
     ensures { IfOk result (λ ended. IsFormedOn ended.world.heap [] ended.world.disk.end) }
 {
-    let mut lists = Vec::new(alloc);
-    for program in programs {
-        lists.push(Vec::from_slice(alloc, program)?)?;
-    }
     let signals = Arc::new(alloc, Signals::new())?;
-    let mut world = world;
-    let readers = first_flawed(world.lend(alloc)?, &signals, flaw)?;
-    let mut stage = world.begin(alloc, readers)?;
-    let told = stage.play(rt, &signals, &lists);
+    let mut stage = begin_flawed(alloc, world, &signals, flaw)?;
+    let logs = stage.play(rt, &signals, programs);
     let held = stage.held(r);
+    let seen = Seen { logs, held };
     let world = stage.finish();
-    let logs = Vec::from_slice(alloc, &told)?;
-    Ok(Ended { logs, held, world })
+    Ok(Ended { seen, world })
+}
+
+/// Runs them over what was done before, on a disk without homes.
+fn run_over<T: Threads + Wait + Sync>(
+    rt: &T,
+    alloc: Global,
+    disk: &mut MemDisk,
+    before: &Before<'_>,
+    flaw: Flaw,
+    programs: &[&[Step]],
+    r: usize,
+) -> Result<Left, Trouble> {
+    let world = world_behind(alloc, disk, before)?;
+    let used = world.used();
+    let Ended { seen, world } = run(rt, alloc, world, flaw, programs, r)?;
+    Ok(Left {
+        used,
+        seen,
+        returned: world.returned(),
+    })
 }
 
 /// Runs them over what was done before.
@@ -200,30 +240,15 @@ pub(super) fn run_behind<T: Threads + Wait + Sync>(
     r: usize,
 ) -> Result<Left, Trouble> {
     let mut disk = MemDisk::new(alloc);
-    let world = world_behind(alloc, &mut disk, before)?;
-    let used = world.used();
-    let Ended { logs, held, world } = run(rt, alloc, world, flaw, programs, r)?;
-    let returned = world.returned();
-    Ok(Left {
-        used,
-        logs,
-        held,
-        returned,
-    })
-}
-
-/// What call `at` of a thread came to.
-pub(super) fn result(
-    logs: &[Log],
-    thread: usize,
-    at: usize,
-) -> Result<Result<Reply, Refusal>, Fail> {
-    Ok(told(logs, thread, at)?.result)
+    run_over(rt, alloc, &mut disk, before, flaw, programs, r)
 }
 
 /// What a thread was told of its call `at`.
-pub(super) fn told(logs: &[Log], thread: usize, at: usize) -> Result<Told, Fail> {
-    let log = logs.get(thread).ok_or("no thread")?;
-    let told = log.get(at).ok_or("no call")?;
-    Ok(told.ok_or("no call")?)
+pub(super) fn told(logs: &[Log], thread: usize, at: usize) -> Option<Told> {
+    *logs.get(thread)?.get(at)?
+}
+
+/// What call `at` of a thread came to.
+pub(super) fn result(logs: &[Log], thread: usize, at: usize) -> Option<Result<Reply, Refusal>> {
+    Some(told(logs, thread, at)?.result)
 }

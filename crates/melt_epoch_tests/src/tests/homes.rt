@@ -4,6 +4,7 @@ ghost use Rattle.melt_move.specs.Collecting.{IsFormedOn};
 use super::calls::gload;
 use super::given::{Before, Ended, Flaw, result, run, run_behind, world_behind};
 use crate::play::Step::{self, Await, Call, Raise};
+use crate::told::Log;
 use crate::world::World;
 use melt_core::{Pause, Refusal};
 use melt_io::MemDisk;
@@ -34,22 +35,45 @@ const ONE: Before<'static> = Before {
     used: &[],
 };
 
-#[test]
-fn two_loads_of_one_home_find_one_object(rt: HostRuntime) -> Result<(), Fail> {
-    let first = [Call(gload(0, 0))];
-    let second = [Call(gload(0, 1))];
-    let programs: [&[Step]; 2] = [&first, &second];
-    let left = run_behind(&rt, rt.alloc(), &ONE, Flaw::Nothing, &programs, 0)?;
-    same(left.used, 0)?;
-    for k in 0..2 {
-        same((k, result(&left.logs, k, 0)?), (k, Ok(Reply::Ref)))?;
-    }
-    same(left.held[0] != 0, true)?;
-    same(left.held[0], left.held[1])?;
-    same(left.returned, Some(1))
+/// Whether the first threads hold one object in the register that was looked at.
+fn hold_one(held: &[u32; 8], threads: usize) -> bool {
+    held[0] != 0 && held.iter().take(threads).all(|address| *address == held[0])
 }
 
-/// Lets eight threads load one global each, all at once, and looks that they find one object.
+#[test]
+fn two_loads_of_one_home_find_one_object(rt: HostRuntime) -> Result<(), Fail> {
+    let programs: [&[Step]; 2] = [&[Call(gload(0, 0))], &[Call(gload(0, 1))]];
+    let left = run_behind(&rt, rt.alloc(), &ONE, Flaw::Nothing, &programs, 0)?;
+    let told = [result(&left.seen.logs, 0, 0), result(&left.seen.logs, 1, 0)];
+    same((left.used, told), (0, [Some(Ok(Reply::Ref)); 2]))?;
+    let held = left.seen.held;
+    same(
+        (held, hold_one(&held, 2), left.returned),
+        (held, true, Some(1)),
+    )
+}
+
+/// Each thread loads its own global.
+const LOAD_BY_EIGHT: [&[Step]; 8] = [
+    &[Call(Op::GLoad { dst: 0, g: 0 })],
+    &[Call(Op::GLoad { dst: 0, g: 1 })],
+    &[Call(Op::GLoad { dst: 0, g: 2 })],
+    &[Call(Op::GLoad { dst: 0, g: 3 })],
+    &[Call(Op::GLoad { dst: 0, g: 4 })],
+    &[Call(Op::GLoad { dst: 0, g: 5 })],
+    &[Call(Op::GLoad { dst: 0, g: 6 })],
+    &[Call(Op::GLoad { dst: 0, g: 7 })],
+];
+
+/// Looks that eight threads found one object, which alone came back.
+fn find_one(logs: &[Log; 8], held: &[u32; 8], returned: Option<usize>) -> Result<(), Fail> {
+    for k in 0..8 {
+        same((k, result(logs, k, 0)), (k, Some(Ok(Reply::Ref))))?;
+    }
+    same((*held, hold_one(held, 8), returned), (*held, true, Some(1)))
+}
+
+/// Lets eight threads load one global each, all at once, looks that they find one object, and moves it away again.
 fn load_by_eight<'d, T: Threads + Wait + Sync>(
     rt: &T,
     alloc: Global,
@@ -58,41 +82,34 @@ fn load_by_eight<'d, T: Threads + Wait + Sync>(
     requires { IsFormedOn world.heap [] world.disk.end }
     ensures { IfOk result (λ world. IsFormedOn world.heap [] world.disk.end) }
 {
-    let [p0, p1, p2, p3, p4, p5, p6, p7] = [
-        [Call(gload(0, 0))],
-        [Call(gload(0, 1))],
-        [Call(gload(0, 2))],
-        [Call(gload(0, 3))],
-        [Call(gload(0, 4))],
-        [Call(gload(0, 5))],
-        [Call(gload(0, 6))],
-        [Call(gload(0, 7))],
-    ];
-    let programs: [&[Step]; 8] = [&p0, &p1, &p2, &p3, &p4, &p5, &p6, &p7];
-    let Ended { logs, held, world } = run(rt, alloc, world, Flaw::Nothing, &programs, 0)?;
-    for k in 0..8 {
-        same((k, result(&logs, k, 0)?), (k, Ok(Reply::Ref)))?;
-        same((k, held[0]), (k, held[k]))?;
-    }
-    same(world.returned(), Some(1))?;
+    let Ended { seen, world } = run(rt, alloc, world, Flaw::Nothing, &LOAD_BY_EIGHT, 0)?;
+    find_one(&seen.logs, &seen.held, world.returned())?;
+    let world = world.collect(alloc, Phase::Move)?;
+    let world = world.collect(alloc, Phase::Move)?;
+    same(world.used(), 0)?;
     Ok(world)
 }
 
 /// How often eight threads load one home; `bench/rounds` tries more.
 const ROUNDS: u32 = 100;
 
-#[test]
-fn eight_loads_of_one_home_find_one_object(rt: HostRuntime) -> Result<(), Fail> {
-    let alloc = rt.alloc();
-    let mut disk = MemDisk::new(alloc);
-    let mut world = world_behind(alloc, &mut disk, &ONE)?;
-    for round in 0..ROUNDS {
-        world = load_by_eight(&rt, alloc, world)?;
-        world = world.collect(alloc, Phase::Move)?;
-        world = world.collect(alloc, Phase::Move)?;
-        same((round, world.used()), (round, 0))?;
+/// Lets eight threads do so again and again.
+fn load_again<T: Threads + Wait + Sync>(
+    rt: &T,
+    alloc: Global,
+    disk: &mut MemDisk,
+) -> Result<(), Fail> {
+    let mut world = world_behind(alloc, disk, &ONE)?;
+    for _round in 0..ROUNDS {
+        world = load_by_eight(rt, alloc, world)?;
     }
     Ok(())
+}
+
+#[test]
+fn eight_loads_of_one_home_find_one_object(rt: HostRuntime) -> Result<(), Fail> {
+    let mut disk = MemDisk::new(rt.alloc());
+    load_again(&rt, rt.alloc(), &mut disk)
 }
 
 /// Three objects, each held by a global, and two forwarding words.
@@ -107,59 +124,60 @@ const THREE: Before<'static> = Before {
     used: &[],
 };
 
+/// Each of three threads loads its own global, waits for the others, and loads it again.
+const LOAD_TWICE: [&[Step]; 3] = [
+    &[
+        Call(Op::GLoad { dst: 0, g: 0 }),
+        Raise(0),
+        Await(1),
+        Await(2),
+        Call(Op::GLoad { dst: 0, g: 0 }),
+    ],
+    &[
+        Call(Op::GLoad { dst: 0, g: 1 }),
+        Raise(1),
+        Await(0),
+        Await(2),
+        Call(Op::GLoad { dst: 0, g: 1 }),
+    ],
+    &[
+        Call(Op::GLoad { dst: 0, g: 2 }),
+        Raise(2),
+        Await(0),
+        Await(1),
+        Call(Op::GLoad { dst: 0, g: 2 }),
+    ],
+];
+
 #[test]
 fn one_home_more_than_there_are_forwarding_words_stops_all(rt: HostRuntime) -> Result<(), Fail> {
+    let asked = Some(Err(Refusal::Pause(Pause::Asked)));
     for _ in 0..20 {
-        let first = [
-            Call(gload(0, 0)),
-            Raise(0),
-            Await(1),
-            Await(2),
-            Call(gload(0, 0)),
-        ];
-        let second = [
-            Call(gload(0, 1)),
-            Raise(1),
-            Await(0),
-            Await(2),
-            Call(gload(0, 1)),
-        ];
-        let third = [
-            Call(gload(0, 2)),
-            Raise(2),
-            Await(0),
-            Await(1),
-            Call(gload(0, 2)),
-        ];
-        let programs: [&[Step]; 3] = [&first, &second, &third];
-        let left = run_behind(&rt, rt.alloc(), &THREE, Flaw::Nothing, &programs, 0)?;
+        let left = run_behind(&rt, rt.alloc(), &THREE, Flaw::Nothing, &LOAD_TWICE, 0)?;
         let (mut found, mut full) = (0_u32, 0_u32);
         for k in 0..3 {
-            match result(&left.logs, k, 0)? {
-                Ok(Reply::Ref) => found = found.saturating_add(1),
-                Err(Refusal::Pause(Pause::Forward)) => full = full.saturating_add(1),
+            match result(&left.seen.logs, k, 0) {
+                Some(Ok(Reply::Ref)) => found = found.saturating_add(1),
+                Some(Err(Refusal::Pause(Pause::Forward))) => full = full.saturating_add(1),
                 _ => {}
             }
-            let asked = Err(Refusal::Pause(Pause::Asked));
-            same((k, result(&left.logs, k, 1)?), (k, asked))?;
+            same((k, result(&left.seen.logs, k, 1)), (k, asked))?;
         }
-        same((found, full), (2, 1))?;
-        same(left.returned, Some(2))?;
+        same((found, full, left.returned), (2, 1, Some(2)))?;
     }
     Ok(())
 }
 
 #[test]
 fn as_many_homes_as_forwarding_words_come_back(rt: HostRuntime) -> Result<(), Fail> {
-    let first = [Call(gload(0, 0)), Call(gload(0, 1))];
-    let second = [Call(gload(0, 1)), Call(gload(0, 0))];
-    let programs: [&[Step]; 2] = [&first, &second];
+    let programs: [&[Step]; 2] = [
+        &[Call(gload(0, 0)), Call(gload(0, 1))],
+        &[Call(gload(0, 1)), Call(gload(0, 0))],
+    ];
     let left = run_behind(&rt, rt.alloc(), &THREE, Flaw::Nothing, &programs, 0)?;
-    for k in 0..2 {
-        for at in 0..2 {
-            let told = result(&left.logs, k, at)?;
-            same((k, at, told), (k, at, Ok(Reply::Ref)))?;
-        }
+    for (k, at) in [(0, 0), (0, 1), (1, 0), (1, 1)] {
+        let told = result(&left.seen.logs, k, at);
+        same((k, at, told), (k, at, Some(Ok(Reply::Ref))))?;
     }
     same(left.returned, Some(2))
 }

@@ -1,6 +1,7 @@
 //! Whether what threads were told stands in one order, in which each load finds what was stored last.
 ghost use Rattle.std.specs.Prelude.{◌≡◌, ◌+◌, ◌*◌, ◌^◌, ◌<◌};
 
+use super::short::Short;
 use crate::told::{Log, Told};
 use melt_model::{Op, Reply};
 use std::alloc::{AllocError, Global};
@@ -41,7 +42,7 @@ pub fn cell(object: u64) -> usize
 }
 
 /// One load or store of a place, and when its call was made.
-#[derive(Clone, Copy, Debug)]
+#[derive(Clone, Copy)]
 pub struct Deed {
     pub is_store: bool,
     pub place: usize,
@@ -148,36 +149,33 @@ impl Held {
     }
 }
 
-/// The loads and stores of a thread, or nothing where its log has no meaning.
-pub fn deeds_of(alloc: Global, log: &Log) -> Result<Option<Vec<Deed>>, AllocError> {
+/// What a call means by what is in the registers of its thread, and what it leaves there.
+fn meaning_of(held: &mut Held, told: &Told) -> Meaning {
+    match told.result {
+        Ok(reply) => held.of_answered(told.op, reply, told.found),
+        Err(_) => Meaning::Nothing,
+    }
+}
+
+/// Adds the loads and stores of a thread. Answers whether its log has a meaning.
+pub fn add_deeds(deeds: &mut Short<Deed>, log: &Log) -> bool {
     let mut held = Held { objects: [0; 16] };
-    let mut deeds = Vec::new(alloc);
     for told in log.iter().flatten() {
-        let Told {
-            op,
-            result,
-            found,
-            begun,
-            ended,
-        } = *told;
-        let Ok(reply) = result else {
-            continue;
-        };
-        let (is_store, place, value) = match held.of_answered(op, reply, found) {
+        let (is_store, place, value) = match meaning_of(&mut held, told) {
             Meaning::Nothing => continue,
             Meaning::Loads(place, value) => (false, place, value),
             Meaning::Stores(place, value) => (true, place, value),
-            Meaning::Wrong => return Ok(None),
+            Meaning::Wrong => return false,
         };
         deeds.push(Deed {
             is_store,
             place,
             value,
-            begun,
-            ended,
-        })?;
+            begun: told.begun,
+            ended: told.ended,
+        });
     }
-    Ok(Some(deeds))
+    true
 }
 
 /// How many states of a search are looked at.
@@ -191,7 +189,7 @@ struct State {
 }
 
 /// The next deed of a thread, where it has one.
-fn next_of(threads: &[Vec<Deed>], state: &State, thread: usize) -> Option<Deed> {
+fn next_of(threads: &[&[Deed]], state: &State, thread: usize) -> Option<Deed> {
     let done = *state.done.get(thread)?;
     threads.get(thread)?.get(done).copied()
 }
@@ -214,7 +212,7 @@ fn behind(state: &State, thread: usize, deed: Deed) -> Option<State> {
 /// The states one deed further. No deed comes before one whose call had ended when its own began.
 fn push_next(
     open: &mut Vec<State>,
-    threads: &[Vec<Deed>],
+    threads: &[&[Deed]],
     state: &State,
 ) -> Result<bool, AllocError> {
     let mut first_end = u64::MAX;
@@ -239,7 +237,7 @@ fn push_next(
 /// Whether the deeds of at most eight threads stand in one order over this memory.
 pub fn stand_in_an_order(
     alloc: Global,
-    threads: &[Vec<Deed>],
+    threads: &[&[Deed]],
     memory: Memory,
 ) -> Result<bool, AllocError> {
     let mut open = Vec::new(alloc);

@@ -6,11 +6,22 @@ use melt_core::Refusal;
 use melt_model::{Op, Reply};
 use melt_record::Damaged;
 use melt_same::same;
+use std::alloc::Global;
+use std::sync::Wait;
 use std::test::Fail;
+use std::thread::Threads;
 
 /// Whether a call was made while the other was.
-fn is_within(call: Told, other: Told) -> bool {
-    other.begun < call.begun && call.ended < other.ended
+fn is_within(call: Option<Told>, other: Option<Told>) -> bool {
+    match (call, other) {
+        (Some(call), Some(other)) => other.begun < call.begun && call.ended < other.ended,
+        _ => false,
+    }
+}
+
+/// The number in the object that a load found.
+fn found(load: Option<Told>) -> Option<u64> {
+    load?.found
 }
 
 /// Object 1 refers to object 2. Global 0 holds the first, and global 1 the second, which is used, and so stays.
@@ -31,15 +42,18 @@ const STUB: Before<'static> = Before {
 
 #[test]
 fn the_object_of_a_stub_is_cleared_while_the_stub_is_read(rt: HostRuntime) -> Result<(), Fail> {
-    let first = [Call(gload(0, 0)), Call(load(1, 0, 0))];
-    let second = [Await(0), Call(gload(1, 1)), Raise(1)];
-    let programs: [&[Step]; 2] = [&first, &second];
+    let programs: [&[Step]; 2] = [
+        &[Call(gload(0, 0)), Call(load(1, 0, 0))],
+        &[Await(0), Call(gload(1, 1)), Raise(1)],
+    ];
     let left = run_behind(&rt, rt.alloc(), &STUB, Flaw::Waits(3), &programs, 1)?;
-    let [first, second] = [told(&left.logs, 0, 1)?, told(&left.logs, 1, 0)?];
-    same([first.found, second.found], [Some(2), Some(2)])?;
+    let [first, second] = [told(&left.seen.logs, 0, 1), told(&left.seen.logs, 1, 0)];
+    same([found(first), found(second)], [Some(2), Some(2)])?;
     same(is_within(second, first), true)?;
-    same(left.held[0], left.held[1])?;
-    same(left.returned, Some(1))
+    same(
+        (left.seen.held[0], left.returned),
+        (left.seen.held[1], Some(1)),
+    )
 }
 
 /// Two objects, each of which is held by a global.
@@ -50,6 +64,18 @@ const TWO: Before<'static> = Before {
     used: &[],
 };
 
+/// Each of two threads loads its own global twice.
+const LOAD_TWICE: [&[Step]; 2] = [
+    &[
+        Call(Op::GLoad { dst: 0, g: 0 }),
+        Call(Op::GLoad { dst: 0, g: 0 }),
+    ],
+    &[
+        Call(Op::GLoad { dst: 0, g: 1 }),
+        Call(Op::GLoad { dst: 1, g: 1 }),
+    ],
+];
+
 #[test]
 fn a_reader_fails_or_lies_for_one_thread_alone(rt: HostRuntime) -> Result<(), Fail> {
     let damaged = |at, word| Refusal::Damaged(Damaged { home: 1, at, word });
@@ -59,16 +85,17 @@ fn a_reader_fails_or_lies_for_one_thread_alone(rt: HostRuntime) -> Result<(), Fa
         (Flaw::Lies(1, 0), damaged(0, 0)),
         (Flaw::Lies(2, 4), damaged(2, 4)),
     ] {
-        let first = [Call(gload(0, 0)), Call(gload(0, 0))];
-        let second = [Call(gload(0, 1)), Call(gload(1, 1))];
-        let programs: [&[Step]; 2] = [&first, &second];
-        let left = run_behind(&rt, rt.alloc(), &TWO, flaw, &programs, 0)?;
-        same(result(&left.logs, 0, 0)?, Err(refusal))?;
-        let again = told(&left.logs, 0, 1)?;
-        let [first, second] = [told(&left.logs, 1, 0)?, told(&left.logs, 1, 1)?];
-        same(again.found, Some(1))?;
-        same([first.found, second.found], [Some(2), Some(2)])?;
-        same(left.returned, Some(2))?;
+        let left = run_behind(&rt, rt.alloc(), &TWO, flaw, &LOAD_TWICE, 0)?;
+        let numbers = [
+            found(told(&left.seen.logs, 0, 1)),
+            found(told(&left.seen.logs, 1, 0)),
+            found(told(&left.seen.logs, 1, 1)),
+        ];
+        same(result(&left.seen.logs, 0, 0), Some(Err(refusal)))?;
+        same(
+            (numbers, left.returned),
+            ([Some(1), Some(2), Some(2)], Some(2)),
+        )?;
     }
     Ok(())
 }
@@ -90,31 +117,49 @@ const SLOT: Before<'static> = Before {
     used: &[Op::GLoad { dst: 0, g: 0 }, Op::GLoad { dst: 0, g: 1 }],
 };
 
+/// Lets the first thread make a load that reads a record, and the second a store meanwhile. The load finds the object of
+/// this number.
+fn store_within<T: Threads + Wait + Sync>(
+    rt: &T,
+    alloc: Global,
+    looked: Op,
+    stored: Op,
+    number: Option<u64>,
+) -> Result<(), Fail> {
+    let first = [Call(gload(0, 0)), Call(looked), Call(load(4, 3, 0))];
+    let second = [
+        Call(gload(0, 0)),
+        Call(gload(1, 1)),
+        Await(0),
+        Call(stored),
+        Raise(1),
+    ];
+    let left = run_behind(rt, alloc, &SLOT, Flaw::Waits(1), &[&first, &second], 3)?;
+    let reply = if number.is_some() {
+        Reply::Ref
+    } else {
+        Reply::Null
+    };
+    let results = [result(&left.seen.logs, 0, 1), result(&left.seen.logs, 1, 2)];
+    same(results, [Some(Ok(reply)), Some(Ok(Reply::Done))])?;
+    let [looked, stored] = [told(&left.seen.logs, 0, 1), told(&left.seen.logs, 1, 2)];
+    // The copy came into use all the same.
+    same(
+        (found(looked), is_within(stored, looked), left.returned),
+        (number, true, Some(1)),
+    )
+}
+
 #[test]
 fn a_load_finds_what_was_stored_while_it_read_the_record(rt: HostRuntime) -> Result<(), Fail> {
-    let hold = [Call(gload(0, 0)), Call(gload(1, 1)), Await(0)];
-    for (looked, stored, found) in [
+    for (looked, stored, number) in [
         (load(3, 0, 0), store(0, 0, 1), Some(3)),
         (load(3, 0, 0), store(0, 0, 0), Some(1)),
         (load(3, 0, 0), store(0, 0, 5), None),
         (gload(3, 2), gstore(2, 1), Some(3)),
         (gload(3, 2), gstore(2, 5), None),
     ] {
-        let first = [Call(gload(0, 0)), Call(looked), Call(load(4, 3, 0))];
-        let second = [hold[0], hold[1], hold[2], Call(stored), Raise(1)];
-        let programs: [&[Step]; 2] = [&first, &second];
-        let left = run_behind(&rt, rt.alloc(), &SLOT, Flaw::Waits(1), &programs, 3)?;
-        let reply = if found.is_some() {
-            Reply::Ref
-        } else {
-            Reply::Null
-        };
-        let [looked, stored] = [told(&left.logs, 0, 1)?, told(&left.logs, 1, 2)?];
-        same((looked.result, looked.found), (Ok(reply), found))?;
-        same(stored.result, Ok(Reply::Done))?;
-        same(is_within(stored, looked), true)?;
-        // The copy came into use all the same.
-        same(left.returned, Some(1))?;
+        store_within(&rt, rt.alloc(), looked, stored, number)?;
     }
     Ok(())
 }

@@ -5,15 +5,17 @@
 ghost use Rattle.std.specs.Prelude.{[], IfOk};
 ghost use Rattle.melt_move.specs.Collecting.{IsFormedOn};
 
-use super::judge::{GLOBALS, Memory, PLACES, deeds_of, global, slot, stand_in_an_order};
+use super::calls::{get, gload, gstore, load, new, put, store};
+use super::judge::{Deed, GLOBALS, Memory, PLACES, add_deeds, global, slot, stand_in_an_order};
 use super::random::Random;
+use super::short::{Short, slices};
 use crate::play::{Signals, Step};
 use crate::told::Log;
 use crate::trouble::Trouble;
 use crate::world::World;
 use melt_io::MemDisk;
 use melt_model::{Op, Phase};
-use std::alloc::Global;
+use std::alloc::{AllocError, Global};
 use std::sync::Wait;
 use std::thread::Threads;
 
@@ -29,8 +31,20 @@ const WORDS: u32 = 1024;
 /// The word on disk that no home reaches.
 const LIMIT: u32 = 1 << 20;
 
+/// Stands in a program where there is no step.
+const BLANK: Step = Step::Raise(0);
+
+/// Stands in a list of deeds where there is none.
+const NO_DEED: Deed = Deed {
+    is_store: false,
+    place: 0,
+    value: 0,
+    begun: 0,
+    ended: 0,
+};
+
 /// What a trial came to.
-#[derive(Clone, Copy, Debug, PartialEq, Eq)]
+#[derive(Clone, Copy)]
 pub struct Outcome {
     /// What the threads were told stands in one order, and no home has two forwarding words.
     pub is_legal: bool,
@@ -41,56 +55,48 @@ pub struct Outcome {
 }
 
 /// Makes an object with two slots and two numbers, of which the first is its own.
-fn push_object(ops: &mut Vec<Op>, object: u8) -> Result<(), Trouble> {
-    ops.push(Op::New {
-        dst: object,
-        refs: 2,
-        nums: 2,
-    })?;
-    ops.push(Op::Put {
-        obj: object,
-        j: 0,
-        v: u64::from(object),
-    })?;
-    Ok(())
+fn push_object(ops: &mut Short<Op>, object: u8) {
+    ops.push(new(object, 2, 2));
+    ops.push(put(object, 0, u64::from(object)));
+}
+
+/// Stores the object of a number at a place.
+fn set(memory: &mut Memory, place: usize, object: u8) {
+    if let Some(word) = memory.get_mut(place) {
+        *word = u64::from(object);
+    }
 }
 
 /// Calls that make the first objects with random references between them, and what is where behind them.
-fn first_calls(alloc: Global, random: &mut Random) -> Result<(Vec<Op>, Memory), Trouble> {
-    let mut ops = Vec::new(alloc);
+fn first_calls(random: &mut Random) -> (Short<Op>, Memory) {
+    let mut ops = Short::new(Op::Collect);
     let mut memory = [0; PLACES];
     for object in 0..FIRST {
-        push_object(&mut ops, object + 1)?;
+        push_object(&mut ops, object + 1);
     }
     for obj in 1..=FIRST {
         for i in 0..2_u8 {
             let src = random.small(FIRST + 1);
-            ops.push(Op::Store { obj, i, src })?;
-            if let Some(word) = memory.get_mut(slot(u64::from(obj), i)) {
-                *word = u64::from(src);
-            }
+            ops.push(store(obj, i, src));
+            set(&mut memory, slot(u64::from(obj), i), src);
         }
     }
     for g in 0..GLOBALS as u8 {
         let src = random.small(FIRST + 1);
-        ops.push(Op::GStore { g, src })?;
-        if let Some(word) = memory.get_mut(global(g)) {
-            *word = u64::from(src);
-        }
+        ops.push(gstore(g, src));
+        set(&mut memory, global(g), src);
     }
-    Ok((ops, memory))
+    (ops, memory)
 }
 
 /// Calls that use some objects, so that these are not stale: no more than there are forwarding words.
-fn some_loads(alloc: Global, random: &mut Random, forwards: u16) -> Result<Vec<Op>, Trouble> {
-    let mut ops = Vec::new(alloc);
+fn some_loads(random: &mut Random, forwards: u16) -> Short<Op> {
+    let mut ops = Short::new(Op::Collect);
     for _ in 0..random.below(1 + u64::from(forwards.min(6) / 2)) {
-        let g = random.small(GLOBALS as u8);
-        ops.push(Op::GLoad { dst: 1, g })?;
-        let i = random.small(2);
-        ops.push(Op::Load { dst: 2, src: 1, i })?;
+        ops.push(gload(1, random.small(GLOBALS as u8)));
+        ops.push(load(2, 1, random.small(2)));
     }
-    Ok(ops)
+    ops
 }
 
 /// Collects some times, and uses some objects in between.
@@ -112,21 +118,16 @@ fn age<'d>(
         };
         world = world.collect(alloc, phase)?;
         if random.below(3) == 0 {
-            let loads = some_loads(alloc, random, forwards)?;
-            world = world.prepare(alloc, &loads)?;
+            let loads = some_loads(random, forwards);
+            world = world.prepare(alloc, loads.as_slice())?;
             world = world.collect(alloc, Phase::Inactive)?;
         }
     }
     Ok(world)
 }
 
-/// Adds a random call of a thread to its program.
-fn push_call(
-    random: &mut Random,
-    thread: u8,
-    own: &mut u64,
-    program: &mut Vec<Step>,
-) -> Result<(), Trouble> {
+/// Adds a random call of a thread to its program. `own` counts the objects that it makes.
+fn push_call(random: &mut Random, thread: u8, own: &mut u64, program: &mut Short<Step>) {
     let (dst, src, obj) = (
         1 + random.small(3),
         1 + random.small(3),
@@ -134,115 +135,132 @@ fn push_call(
     );
     let (g, i) = (random.small(GLOBALS as u8), random.small(2));
     let op = match random.below(9) {
-        0 | 1 => Op::GLoad { dst, g },
-        2 | 3 => Op::Load { dst, src, i },
-        4 => Op::Store { obj, i, src },
-        5 => Op::GStore { g, src },
-        6 => Op::Put {
-            obj,
-            j: 1,
-            v: 1 + random.below(1000),
-        },
-        7 => Op::Get { src, j: 1 },
+        0 | 1 => gload(dst, g),
+        2 | 3 => load(dst, src, i),
+        4 => store(obj, i, src),
+        5 => gstore(g, src),
+        6 => put(obj, 1, 1 + random.below(1000)),
+        7 => get(src, 1),
         _ if *own < OWN => {
             let object = u64::from(FIRST) + 1 + OWN * u64::from(thread) + *own;
             *own += 1;
-            program.push(Step::Call(Op::New {
-                dst,
-                refs: 2,
-                nums: 2,
-            }))?;
-            Op::Put {
-                obj: dst,
-                j: 0,
-                v: object,
-            }
+            program.push(Step::Call(new(dst, 2, 2)));
+            put(dst, 0, object)
         }
-        _ => Op::GLoad { dst, g },
+        _ => gload(dst, g),
     };
-    program.push(Step::Call(op))?;
-    Ok(())
+    program.push(Step::Call(op));
 }
 
-/// Random programs, each of three to six calls, of which the first loads a global.
-fn new_programs(
-    alloc: Global,
-    random: &mut Random,
-    threads: u8,
-) -> Result<Vec<Vec<Step>>, Trouble> {
-    let mut programs = Vec::new(alloc);
+/// A random program of three to six calls, of which the first loads a global.
+fn new_program(random: &mut Random, thread: u8) -> Short<Step> {
+    let mut program = Short::new(BLANK);
+    let mut own = 0;
+    program.push(Step::Call(gload(1, random.small(GLOBALS as u8))));
+    for _ in 0..2 + random.below(4) {
+        push_call(random, thread, &mut own, &mut program);
+    }
+    program
+}
+
+/// Random programs of the first threads.
+fn new_programs(random: &mut Random, threads: u8) -> [Short<Step>; 8] {
+    let mut programs = [Short::new(BLANK); 8];
     for thread in 0..threads {
-        let mut program = Vec::new(alloc);
-        let mut own = 0;
-        program.push(Step::Call(Op::GLoad {
-            dst: 1,
-            g: random.small(GLOBALS as u8),
-        }))?;
-        for _ in 0..2 + random.below(4) {
-            push_call(random, thread, &mut own, &mut program)?;
+        if let Some(program) = programs.get_mut(usize::from(thread)) {
+            *program = new_program(random, thread);
         }
-        programs.push(program)?;
     }
-    Ok(programs)
+    programs
 }
 
-/// One program, which loads each global, and looks at the object that it finds there.
-fn look(alloc: Global) -> Result<Vec<Vec<Step>>, Trouble> {
-    let mut programs = Vec::new(alloc);
-    let mut program = Vec::new(alloc);
+/// A program that loads each global, and looks at the object that it finds there.
+fn look() -> Short<Step> {
+    let mut program = Short::new(BLANK);
     for g in 0..GLOBALS as u8 {
-        for op in [
-            Op::GLoad { dst: 1, g },
-            Op::Load {
-                dst: 2,
-                src: 1,
-                i: 0,
-            },
-            Op::Load {
-                dst: 2,
-                src: 1,
-                i: 1,
-            },
-            Op::Get { src: 1, j: 1 },
-        ] {
-            program.push(Step::Call(op))?;
+        for op in [gload(1, g), load(2, 1, 0), load(2, 1, 1), get(1, 1)] {
+            program.push(Step::Call(op));
         }
     }
-    programs.push(program)?;
-    Ok(programs)
+    program
+}
+
+/// What the threads of a trial were told, and what was there before and behind that.
+#[derive(Clone, Copy)]
+struct Played {
+    /// Which object was at each place.
+    memory: Memory,
+    logs: [Log; 8],
+    /// What one thread was told behind all others.
+    last: Log,
+    /// How many objects came back from the disk.
+    returned: Option<usize>,
 }
 
 /// Whether the logs of threads stand in one order, the last one behind all others.
-fn judge(alloc: Global, logs: &[Log], last: &Log, memory: Memory) -> Result<bool, Trouble> {
-    let mut threads = Vec::new(alloc);
-    for log in logs {
-        let Some(deeds) = deeds_of(alloc, log)? else {
-            return Ok(false);
-        };
-        threads.push(deeds)?;
+fn judge(alloc: Global, played: &Played) -> Result<bool, AllocError> {
+    let mut threads = [Short::new(NO_DEED); 8];
+    let mut is_meant = true;
+    for (deeds, log) in threads.iter_mut().zip(&played.logs) {
+        is_meant &= add_deeds(deeds, log);
     }
-    let Some(behind) = deeds_of(alloc, last)? else {
-        return Ok(false);
-    };
-    if let Some(first) = threads.first_mut() {
-        for deed in behind.iter() {
-            first.push(*deed)?;
-        }
-    }
-    Ok(stand_in_an_order(alloc, &threads, memory)?)
+    is_meant &= add_deeds(&mut threads[0], &played.last);
+    Ok(is_meant && stand_in_an_order(alloc, &slices(&threads), played.memory)?)
+}
+
+/// How many calls of a thread were refused.
+fn refused_in(log: &Log) -> usize {
+    log.iter()
+        .filter(|told| told.is_some_and(|told| told.result.is_err()))
+        .count()
 }
 
 /// How many calls were refused.
-fn refused(logs: &[Log]) -> usize {
+fn refused(logs: &[Log; 8]) -> usize {
     let mut count = 0_usize;
     for log in logs {
-        for told in log.iter().flatten() {
-            if told.result.is_err() {
-                count = count.saturating_add(1);
-            }
-        }
+        count = count.saturating_add(refused_in(log));
     }
     count
+}
+
+/// Makes the heap of a trial over a disk without homes. Answers what is where there.
+fn new_world<'d>(
+    alloc: Global,
+    random: &mut Random,
+    disk: &'d mut MemDisk,
+) -> Result<(World<'d, MemDisk>, Memory), Trouble>
+    ensures { IfOk result (λ r. IsFormedOn r.0.heap [] r.0.disk.end) }
+{
+    let forwards = if random.below(4) == 0 { 2 } else { 16 };
+    let world = World::new(alloc, disk, LIMIT, WORDS, GLOBALS as u8, forwards)?;
+    let (calls, memory) = first_calls(random);
+    let world = world.prepare(alloc, calls.as_slice())?;
+    Ok((age(alloc, random, world, forwards)?, memory))
+}
+
+/// Lets threads play over a disk without homes.
+fn play_over<T: Threads + Wait + Sync>(
+    rt: &T,
+    alloc: Global,
+    seed: u64,
+    disk: &mut MemDisk,
+) -> Result<Played, Trouble> {
+    let mut random = Random::new(seed);
+    let (world, memory) = new_world(alloc, &mut random, disk)?;
+    let threads = 2 + random.small(7);
+    let programs = new_programs(&mut random, threads);
+    let mut stage = world.open(alloc)?;
+    let signals = Signals::new();
+    let logs = stage.play(rt, &signals, &slices(&programs)[..usize::from(threads)]);
+    let last = stage.play(rt, &signals, &[look().as_slice()]);
+    let world = stage.finish();
+    Ok(Played {
+        memory,
+        logs,
+        last: last[0],
+        returned: world.returned(),
+    })
 }
 
 /// Makes the trial of a seed.
@@ -251,25 +269,11 @@ pub fn run_trial<T: Threads + Wait + Sync>(
     alloc: Global,
     seed: u64,
 ) -> Result<Outcome, Trouble> {
-    let mut random = Random::new(seed);
     let mut disk = MemDisk::new(alloc);
-    let forwards = if random.below(4) == 0 { 2 } else { 16 };
-    let world = World::new(alloc, &mut disk, LIMIT, WORDS, GLOBALS as u8, forwards)?;
-    let (calls, memory) = first_calls(alloc, &mut random)?;
-    let world = age(alloc, &mut random, world.prepare(alloc, &calls)?, forwards)?;
-    let threads = 2 + random.small(7);
-    let programs = new_programs(alloc, &mut random, threads)?;
-    let look = look(alloc)?;
-    let mut stage = world.open(alloc)?;
-    let signals = Signals::new();
-    let logs = stage.play(rt, &signals, &programs);
-    let last = stage.play(rt, &signals, &look);
-    let world = stage.finish();
-    let is_ordered = judge(alloc, &logs, &last[0], memory)?;
-    let returned = world.returned();
+    let played = play_over(rt, alloc, seed, &mut disk)?;
     Ok(Outcome {
-        is_legal: is_ordered && returned.is_some(),
-        returned: returned.unwrap_or(0),
-        refused: refused(&logs),
+        is_legal: played.returned.is_some() && judge(alloc, &played)?,
+        returned: played.returned.unwrap_or(0),
+        refused: refused(&played.logs),
     })
 }

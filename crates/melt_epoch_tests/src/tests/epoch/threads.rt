@@ -1,5 +1,5 @@
-ghost use Rattle.std.specs.Prelude.{◌≡◌, [], Some};
-ghost use Rattle.melt_epoch.specs.Tests.{HasBegun, MayCall};
+ghost use Rattle.std.specs.Prelude.{◌≡◌, ◌^◌, ◌<◌, [], Some};
+ghost use Rattle.melt_epoch.specs.Tests.{AllMayStart, HasBegun, MayCall};
 
 use super::given::{NoDisk, begun, eight_mutators, two_mutators};
 use crate::play::{Signals, number_at};
@@ -8,9 +8,9 @@ use crate::tests::calls::{gload, gstore, new, put};
 use crate::tests::judge::Deed;
 use crate::tests::judged::{is_legal, loads, stores};
 use melt_epoch::{Epoch, Mutator};
-use melt_model::{Op, Reply};
+use melt_model::{NoMemory, Op, Reply};
 use melt_same::same;
-use std::alloc::Global;
+use std::alloc::{AllocError, Global};
 use std::process::Abort;
 use std::sync::atomic::{AtomicU64, Ordering};
 use std::test::Fail;
@@ -41,7 +41,9 @@ fn share_objects<R: Abort>(rt: &R, epoch: &Epoch, m: &mut Mutator<NoDisk>, objec
             reply_of(rt, epoch, m, gstore(0, 0)),
             reply_of(rt, epoch, m, gload(1, 0)),
         ];
-        assert_eq!(rt; replies, [Reply::Done, Reply::Done, Reply::Ref]);
+        if replies != [Reply::Done, Reply::Done, Reply::Ref] {
+            panic!(rt; "a call had another reply");
+        }
     }
 }
 
@@ -69,13 +71,26 @@ fn all_share_objects<R: Abort + Threads + Sync>(
     thread::for_each_mut(rt, mutators, 8, &share);
 }
 
+/// Lets mutators do so in an epoch on a new heap of so many words. Answers how many of them are in use behind it.
+fn used_behind<R: Abort + Threads + Sync>(
+    rt: &R,
+    alloc: Global,
+    words: u32,
+    mutators: &mut [Mutator<NoDisk>],
+) -> Result<u32, NoMemory>
+    requires words { words < 2 ^ 30 }
+    requires mutators { AllMayStart (λ _. Some []) mutators.old }
+{
+    let epoch = begun(alloc, words, 1, 0, mutators)?;
+    all_share_objects(rt, &epoch, mutators, 100);
+    let (heap, _pass) = epoch.finish(mutators);
+    Ok(heap.space.used())
+}
+
 #[test]
 fn two_threads_make_objects_and_share_them(rt: HostRuntime) -> Result<(), Fail> {
     let mut mutators = two_mutators();
-    let epoch = begun(rt.alloc(), 1024, 1, 0, &mut mutators)?;
-    all_share_objects(&rt, &epoch, &mut mutators, 100);
-    let (heap, _pass) = epoch.finish(&mut mutators);
-    same(heap.space.used(), 400)
+    same(used_behind(&rt, rt.alloc(), 1024, &mut mutators), Ok(400))
 }
 
 /// How often eight threads do so; `bench/rounds` tries more.
@@ -85,10 +100,8 @@ const ROUNDS: u32 = 100;
 fn eight_threads_make_objects_and_share_them(rt: HostRuntime) -> Result<(), Fail> {
     for round in 0..ROUNDS {
         let mut mutators = eight_mutators();
-        let epoch = begun(rt.alloc(), 2048, 1, 0, &mut mutators)?;
-        all_share_objects(&rt, &epoch, &mut mutators, 100);
-        let (heap, _pass) = epoch.finish(&mut mutators);
-        same((round, heap.space.used()), (round, 1600))?;
+        let used = used_behind(&rt, rt.alloc(), 2048, &mut mutators);
+        same((round, used), (round, Ok(1600)))?;
     }
     Ok(())
 }
@@ -190,24 +203,26 @@ fn make_all<R: Abort>(rt: &R, epoch: &Epoch, mutators: &mut [Mutator<NoDisk>])
     }
 }
 
-/// Lets two threads store and load so many times, and looks for an order each time.
+/// Lets two threads store and load so many times, and looks for an order each time. Answers how often there was one
+/// before there was none.
 fn play_rounds<R: Abort + Threads + Sync>(
     rt: &R,
     alloc: Global,
     epoch: &Epoch,
     mutators: &mut [Mutator<NoDisk>],
     rounds: u32,
-) -> Result<(), Fail>
+) -> Result<u32, AllocError>
     requires global { 1 ≡ epoch.now.words.start.began.globals }
     requires begun { HasBegun (λ _. Some []) epoch.now.words mutators.old }
     ensures { HasBegun (λ _. Some []) epoch.now.words mutators.new }
 {
     for round in 0..rounds {
         let [first, second] = both_store_and_load(rt, epoch, mutators);
-        let is_ordered = is_legal(alloc, &first, &second)?;
-        same((round, is_ordered), (round, true))?;
+        if !is_legal(alloc, &first, &second)? {
+            return Ok(round);
+        }
     }
-    Ok(())
+    Ok(rounds)
 }
 
 #[test]
@@ -215,10 +230,9 @@ fn what_two_threads_find_in_a_global_stands_in_an_order(rt: HostRuntime) -> Resu
     let mut mutators = two_mutators();
     let epoch = begun(rt.alloc(), 64, 1, 0, &mut mutators)?;
     make_all(&rt, &epoch, &mut mutators);
-    let compared = play_rounds(&rt, rt.alloc(), &epoch, &mut mutators, 1000);
+    let ordered = play_rounds(&rt, rt.alloc(), &epoch, &mut mutators, 1000);
     let (heap, _pass) = epoch.finish(&mut mutators);
-    compared?;
-    same(heap.space.used(), 12)
+    same((ordered, heap.space.used()), (Ok(1000), 12))
 }
 
 #[test]

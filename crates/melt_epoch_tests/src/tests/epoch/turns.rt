@@ -49,8 +49,8 @@ fn two_mutators_make_objects_by_turns(rt: HostRuntime) -> Result<(), Fail> {
         answered(0, get(1, 0), Reply::Nil),
     ];
     let heap = expect_in(rt.alloc(), 64, 2, 3, &mut mutators, &calls)?;
-    same(heap.space.used(), 12)?;
-    same(heap.globals.items.as_slice(), [4, 24].as_slice())
+    let globals = heap.globals.items.as_slice();
+    same((heap.space.used(), globals), (12, [4, 24].as_slice()))
 }
 
 #[test]
@@ -68,8 +68,8 @@ fn a_mutator_asks_all_to_stop(rt: HostRuntime) -> Result<(), Fail> {
         answered(1, are_same(0, 1), Reply::No),
     ];
     let heap = expect_in(rt.alloc(), 64, 1, 0, &mut mutators, &calls)?;
-    same(heap.space.used(), 4)?;
-    same(heap.globals.items.as_slice(), [0].as_slice())
+    let globals = heap.globals.items.as_slice();
+    same((heap.space.used(), globals), (4, [0].as_slice()))
 }
 
 #[test]

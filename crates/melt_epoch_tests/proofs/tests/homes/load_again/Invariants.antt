@@ -1,6 +1,6 @@
 use Rattle.std.specs.Prelude.{[]}
 use Rattle.melt_move.specs.Collecting.{IsFormedOn}
-use Rattle.melt_epoch_tests.proofs.tests.homes.eight_loads_of_one_home_find_one_object.Given as goal
+use Rattle.melt_epoch_tests.proofs.tests.homes.load_again.Given as goal
 
 abbrev pub invariant-loop-round : goal.invariant-loop-round
 invariant-loop-round g l = IsFormedOn l.world.heap [] l.world.disk.end
