@@ -28,7 +28,7 @@ def commands(rows, title, need, uses):
         yield "END"
     yield "set terminal svg size 860,400 font 'sans-serif,12' background 'white'"
     yield f"set title {quoted(title)} noenhanced"
-    yield "set xlabel 'words of the heap'\nset ylabel 'came back from the disk'\nset logscale x 2\nset format '%.10g'"
+    yield "set xlabel 'words of the heap' offset 0,0.5\nset ylabel 'came back from the disk'\nset logscale x 2\nset format '%.10g'"
     yield "set yrange [0:*]\nset key outside below\nset grid lc rgb '#cccccc'"
     if need is not None:
         yield f"set arrow from {need}, graph 0 to {need}, graph 1 nohead dt (6,6) lc rgb '#666666'"
