@@ -80,6 +80,23 @@ def test_check_finds(folder):
             Block.is_as_it_was = looks
 
 
+def test_identities_as_bytes(folder):
+    """The identities of things in a tuple are told as bytes."""
+    from recording import roles
+    things = None, 1, "text", [], {}, roles, roles.ROLES, recorded
+    for some in ((), things[:1], things, things * 40):
+        assert roles.identities(some) == b"".join(id(thing).to_bytes(8, sys.byteorder) for thing in some)
+
+
+def test_lets_go(folder):
+    """Where no more is recorded, nothing of the program is held any more but what it used last, and its finalizers have run."""
+    text = ("class Count: number = 0\nclass Thing:\n    def __init__(self, count): self.count, self.me = count, [count]\n"
+            "    def __del__(self): self.count.number += 1\ncount = Count()\nfor n in range(400): thing = Thing(count)\n"
+            "del thing\nprint(count.number)\n")
+    ran = recorded("deletes", "--window", 5, "--operations", 200, program("deletes.py", text))
+    assert "the trace is full" in ran.told and 400 - 5 <= int(ran.out) <= 400, ran
+
+
 def test_full_walk(folder):
     """--full records as much as the fast way."""
     many = program("many.py", MANY)

@@ -6,16 +6,19 @@ what it has to a new cell, and leads to that; they do so in turn, breadth first,
 has nothing left goes. What an object has beyond its references is in number words: in those of its cells, and in cells of number
 words alone, the pads.
 """
+from itertools import islice
+
 MOST = 62                  # slots of an object of the trace, and number words
+WIDTH = 64                 # a place is a number: that of a cell, by this, and of a slot of it. So places of the head are its slots
 
 
 class Cell:
-    __slots__ = ("identity", "content", "numbers", "above", "at", "taken")
+    __slots__ = ("identity", "content", "numbers", "number", "above", "at", "taken")
 
     def __init__(self, identity, slots, numbers):
         self.identity, self.numbers = identity, numbers
         self.content = [None] * slots      # in each slot a node, a cell, or nothing
-        self.taken = 0
+        self.taken = self.number = 0       # how many slots have something; the number among the cells of the object
         self.above = self.at = None        # the cell that leads here, and its slot
 
     def words(self):
@@ -33,24 +36,30 @@ class Cell:
         return slots[::-1]
 
 
+def place_above(cell):
+    """The place that leads to a cell."""
+    return cell.above.number * WIDTH + cell.at
+
+
 class Form:
     """The cells of an object."""
-    __slots__ = ("cells", "places", "free", "pads", "words", "turn")
+    __slots__ = ("head", "inner", "places", "free", "pads", "words", "turn", "made")
 
     def __init__(self, head):
-        self.cells = [head]    # those with slots, in the order of their making, and the head
-        self.places = {}       # for each node that the object leads to: a cell and a slot
-        self.free = [(head, slot) for slot in reversed(range(len(head.content)))]
+        self.head = head
+        self.inner = None      # the other cells with slots, by their numbers, in the order of their making
+        self.places = {}       # the place of each node that the object leads to
+        self.free = list(range(len(head.content) - 1, -1, -1))
         self.pads = ()
-        self.turn = 0          # all slots of the cells before this one lead to cells already
+        self.turn = 0          # all slots of so many cells lead to cells already
+        self.made = 0          # how many cells were made beside the head
         self.words = head.words()
 
-    @property
-    def head(self):
-        return self.cells[0]
+    def cell_at(self, place):
+        return self.head if place < WIDTH else self.inner[place // WIDTH]
 
     def put(self, place, content):
-        cell, slot = place
+        cell, slot = self.cell_at(place), place % WIDTH
         cell.content[slot] = content
         cell.taken += 1
         if isinstance(content, Cell):
@@ -60,44 +69,52 @@ class Form:
 
     def take(self, place):
         """Empties a place, and answers what was there."""
-        cell, slot = place
+        cell, slot = self.cell_at(place), place % WIDTH
         content, cell.content[slot] = cell.content[slot], None
         cell.taken -= 1
         if not isinstance(content, Cell):
             del self.places[content]
         return content
 
+    def branches(self):
+        """The cells with slots, and the head."""
+        yield self.head
+        yield from (self.inner or {}).values()
+
     def give_way(self):
         """The place that is next to lead to a new cell."""
         for begin in (self.turn, 0):
-            for self.turn in range(begin, len(self.cells)):
-                cell = self.cells[self.turn]
+            for self.turn, cell in enumerate(islice(self.branches(), begin, None), begin):
                 for slot, content in enumerate(cell.content):
                     if content is not None and not (isinstance(content, Cell) and content.is_branch()):
-                        return cell, slot
+                        return cell.number * WIDTH + slot
         raise AssertionError("a full object has a slot that leads to no cell with slots")
 
     def add(self, cell):
         """Takes in a new cell, and the slots that it has."""
         if cell.is_branch():
-            self.cells.append(cell)
+            self.made += 1
+            cell.number = self.made
+            if self.inner is None:
+                self.inner = {}
+            self.inner[cell.number] = cell
+            first = cell.number * WIDTH
+            self.free += range(first + len(cell.content) - 1, first - 1, -1)
         else:
             self.pads += cell,
         self.words += cell.words()
-        self.free += [(cell, slot) for slot in reversed(range(len(cell.content)))]
 
     def remove(self, cell):
         if cell.is_branch():
-            self.cells.remove(cell)
+            del self.inner[cell.number]
+            self.free = [place for place in self.free if place // WIDTH != cell.number]
         else:
             self.pads = tuple(pad for pad in self.pads if pad is not cell)
         self.words -= cell.words()
         self.turn = 0
-        if cell.is_branch():
-            self.free = [place for place in self.free if place[0] is not cell]
 
     def all_cells(self):
-        return [*self.cells, *self.pads]
+        return [*self.branches(), *self.pads]
 
 
 def first_shape(kids, words, fixed):
@@ -111,4 +128,4 @@ def first_shape(kids, words, fixed):
 
 def next_slots(form):
     """How many slots the next cell of an object has: half of those that it has, as lists grow."""
-    return min(MOST, max(4, sum(len(cell.content) for cell in form.cells) // 2))
+    return min(MOST, max(4, sum(len(cell.content) for cell in form.branches()) // 2))

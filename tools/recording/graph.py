@@ -13,12 +13,12 @@ import heapq
 from collections import Counter
 from itertools import count
 
-from recording.roles import difference, is_fixed, is_looked_at_singly, kind_of, own_words, parts, referents, same
+from recording.roles import difference, identities, is_fixed, is_looked_at_singly, kind_of, own_words, parts, referents, same
 
 SHOWN = 4                  # first steps of a way that are told, and last ones
 VARIABLE = "(a variable of a frame)"
 BLOCK = 64                 # objects that are asked for their references at once
-FAR = 1 << 20              # how far frames are: a way from a module comes first, since it stays
+FAR = 1 << 40              # how far frames are: a way from a module comes first, since it stays
 
 
 class Differs(Exception):
@@ -43,18 +43,18 @@ class Node:
 
 
 class Block:
-    """Some nodes, and all that they refer to in one list."""
+    """Some nodes, and the identities of all that they refer to."""
     __slots__ = ("nodes", "things", "found")
 
     def __init__(self, nodes):
         self.nodes = nodes
         self.things = [node.thing for node in nodes]
-        self.found = [other for node in nodes for other in node.found]
+        self.found = identities(tuple([other for node in nodes for other in node.found]))
         for node in nodes:
             node.block = self
 
     def is_as_it_was(self):
-        return same(gc.get_referents(*self.things), self.found)
+        return identities(tuple(gc.get_referents(*self.things))) == self.found
 
 
 class Change:
@@ -144,16 +144,13 @@ class Graph:
 
     def update(self, changed):
         """Takes over what the changed nodes refer to now, and answers what that changed."""
-        change, added, removed = Change(), [], []
+        change = Change()
         todo = sorted(changed, key=lambda pair: pair[0].number)
         for node, found in todo:
-            more, fewer = change.changed[node] = self.look_into(node, found, change)
-            added += [(node, kid) for kid in more]
-            removed += [(node, kid) for kid in fewer]
+            change.changed[node] = self.look_into(node, found, change)
         for node in change.found:  # it grows while it is gone through
-            self.look_into(node, referents(node.thing), change)
-            added += [(node, kid) for kid in node.kids]
-        Ways(self, change).update(added, removed)
+            self.look_into_new(node, change)
+        Ways(self, change).update()
         self.let_go(change)
         self.renew_blocks(change)
         return change
@@ -174,15 +171,27 @@ class Graph:
             kid = self.nodes.get(id(thing)) or self.new_node(thing, change)
             if kid not in kids:
                 kids[kid] = 0
+                kid.holders[node] = None
                 more.append(kid)
             kids[kid] += 1
         for thing in gone:
             kid = self.nodes[id(thing)]
             kids[kid] -= 1
             if not kids[kid]:
-                del kids[kid]
+                del kids[kid], kid.holders[node]
                 fewer.append(kid)
         return more, fewer
+
+    def look_into_new(self, node, change):
+        """Takes over what a new node refers to."""
+        thing, nodes, kids = node.thing, self.nodes, node.kids
+        node.found = referents(thing)
+        objects, node.more = parts(thing, node.found)
+        node.own = own_words(thing)
+        for other in objects:
+            kid = nodes.get(id(other)) or self.new_node(other, change)
+            kids[kid] = kids.get(kid, 0) + 1
+            kid.holders[node] = None
 
     def new_node(self, thing, change):
         node = self.nodes[id(thing)] = Node(thing, next(self.numbers))
@@ -217,32 +226,43 @@ class Graph:
         for at in range(0, len(nodes), BLOCK):
             self.blocks[Block(nodes[at:at + BLOCK])] = None
 
+    def dissolve(self):
+        """Lets go all nodes. They lead to each other in circles, so else collections would have to find them."""
+        for node in (*self.tops, *self.nodes.values()):
+            node.thing = node.found = node.kids = node.holders = node.parent = node.block = node.form = None
+
     def told_ways(self, names):
         """The shortest way to each node in words: from a variable of a module, or else from one of a frame."""
-        told = {}
+        told, ways = {}, {}
         for top in self.tops:
             order = [(top, None)]
             for node, way in order:    # it grows while it is gone through
                 for kid in node.kids:
                     if kid not in told:
-                        name = names.get(id(kid.thing), VARIABLE) if top is self.top else VARIABLE
-                        told[kid] = Way(way or name, kind_of(kid.thing))
+                        before = way or (names.get(id(kid.thing), VARIABLE) if top is self.top else VARIABLE)
+                        step = before, kind_of(kid.thing)
+                        told[kid] = ways.get(step) or ways.setdefault(step, Way(*step))
                         order.append((kid, told[kid]))
         return told
 
 
 class Way:
-    """A way to an object, in words: where it is long, its first steps and its last ones."""
-    __slots__ = ("before", "kind", "first", "length")
+    """A way to objects, in words: where it is long, its first steps and its last ones."""
+    __slots__ = ("before", "kind", "first", "length", "text")
 
     def __init__(self, before, kind):
-        self.before, self.kind = before, kind
+        self.before, self.kind, self.text = before, kind, None
         begun = isinstance(before, Way)
         self.length = before.length + 1 if begun else 2
         steps = before.first if begun else (before,)
         self.first = (*steps, kind) if len(steps) < SHOWN else steps
 
     def __str__(self):
+        if self.text is None:
+            self.text = self.told()
+        return self.text
+
+    def told(self):
         last, step = [], self
         while len(last) < min(SHOWN, self.length - SHOWN):
             last.append(step.kind)
@@ -252,8 +272,8 @@ class Way:
 
 
 def is_worth(depth, before):
-    """Whether a way of one depth is worth leaving another: where that comes from a frame, or is twice as long."""
-    return depth < FAR <= before or before - depth > 8 + depth % FAR
+    """Whether a way of one depth is worth leaving another: where that is twice as long. Beside one from a module each from a frame is."""
+    return before - depth > 8 + depth % FAR
 
 
 class Ways:
@@ -269,18 +289,16 @@ class Ways:
         self.lost = {}         # nodes whose way is gone, and the new ones
         self.heap, self.turn = [], count()
 
-    def update(self, added, removed):
-        for node, kid in removed:
-            del kid.holders[node]
-        for node, kid in added:
-            kid.holders[node] = None
-        self.lose({kid: None for node, kid in removed if kid.parent is node})
+    def update(self):
+        changed = self.change.changed
+        self.lose({kid: None for node, (_, fewer) in changed.items() for kid in fewer if kid.parent is node})
         self.lost.update(self.change.new)
         for node in list(self.lost):
             self.offer_best(node)
-        for node, kid in added:
+        for node, (more, _) in changed.items():
             if node.depth is not None:
-                self.offer(kid, node)
+                for kid in more:
+                    self.offer(kid, node)
         self.settle()
         self.change.gone = self.lost
 
@@ -333,4 +351,5 @@ class Ways:
             self.change.before.setdefault(node, node.parent)
             node.parent, node.depth = parent, depth
             for kid in node.kids:
-                self.offer(kid, node)
+                if kid.depth is None or kid.depth > depth:
+                    self.offer(kid, node)

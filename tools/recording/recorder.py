@@ -21,6 +21,19 @@ INTERRUPTED = "it was interrupted"
 DEPTH = 500                # calls that the end of a window may take beyond what the program is allowed
 
 
+class WithoutCollections:
+    """Python collects no garbage meanwhile: it would go through all that is made here. This is no function of `contextlib`, which catches
+    an exception: a generator of the program that is running keeps a trace of that."""
+
+    def __enter__(self):
+        self.collects = gc.isenabled()
+        gc.disable()
+
+    def __exit__(self, *_):
+        if self.collects:
+            gc.enable()
+
+
 class Recorder:
     """`on_window` is told of the recorder behind each window, and `on_stop` once, when nothing more will be recorded."""
 
@@ -28,7 +41,7 @@ class Recorder:
         self.trace, self.window, self.first_use, self.way = trace, window, first_use, way
         self.on_window, self.on_stop = on_window, on_stop
         self.modules = Modules()
-        self.graph = Graph()
+        self.graph, self.over = Graph(), None      # a graph that is over is let go as soon as nothing waits for this
         self.lock = RLock()
         self.is_busy = self.was_interrupted = False
         self.signal = None         # the number of one that came while this was busy
@@ -91,16 +104,17 @@ class Recorder:
         used.clear()
         if change:
             change.release()
+        self.let_go()
         if self.signal:
             interrupt_main(self.signal)
 
     def guarded(self, used, frame):
         """Ends a window. What goes wrong ends the recording and not the program. Answers what was changed."""
-        collects, depth = gc.isenabled(), sys.getrecursionlimit()
-        gc.disable()
+        depth = sys.getrecursionlimit()
         sys.setrecursionlimit(depth + DEPTH)
         try:
-            return self.record(used, frame)
+            with WithoutCollections():
+                return self.record(used, frame)
         except TooMuch:
             self.stop("a window changed more objects than a trace can be told at once")
         except Exception as error:
@@ -108,8 +122,6 @@ class Recorder:
             self.stop(f"the recorder failed: {type(error).__name__}: {error}")
         finally:
             sys.setrecursionlimit(depth)
-            if collects:
-                gc.enable()
 
     def record(self, used, frame):
         change = self.find([self.modules.values(), frame_values(frame)])
@@ -144,10 +156,11 @@ class Recorder:
         if self.stopped is None:
             self.stopped = why
             busy, self.is_busy = self.is_busy, True       # a signal waits until the files are written
-            if not self.failed:
-                self.tell_holders()
-            self.on_stop(self)
-            self.graph, self.is_busy = None, busy
+            with WithoutCollections():
+                if not self.failed:
+                    self.tell_holders()
+                self.on_stop(self)
+            self.over, self.graph, self.is_busy = self.graph, None, busy
 
     def tell_holders(self):
         """Writes down what holds each object that is there."""
@@ -156,11 +169,18 @@ class Recorder:
             if node.form and node.form.head.identity <= len(rows):
                 rows[node.form.head.identity - 1].held = way
 
+    def let_go(self):
+        """Lets go the objects of the program, by which code of it may run, that may wait for other threads."""
+        over, self.over = self.over, None
+        if over:
+            over.dissolve()
+
     def finish(self, why):
         """Ends the last window, when the program has come to its end or is to come there."""
         self.end_window(sys._getframe(1), is_last=True)
         with self.lock:
             self.stop(why)
+        self.let_go()
 
     def on_signal(self, number, frame):
         """Ctrl-C, or what is meant so: the recording ends, and then the program."""
@@ -171,4 +191,5 @@ class Recorder:
         self.end_window(frame, is_last=True)
         with self.lock:
             self.stop(INTERRUPTED)
+        self.let_go()
         raise KeyboardInterrupt

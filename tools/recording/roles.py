@@ -6,11 +6,12 @@ types hold bytes of which no list tells, which are BUFFER, and suspended functio
 the program's.
 """
 import array
+import ctypes
 import gc
 import io
 import sys
-import tracemalloc
 import types
+from _tracemalloc import is_tracing
 from operator import is_
 
 NOTHING, NUMBER, TEXT, FUNCTION, BUFFER, OBJECT = range(6)
@@ -75,14 +76,29 @@ def same(these, those):
     return len(these) == len(those) and all(map(is_, these, those))
 
 
+def identities(things):
+    """The identities of the things in a tuple, as bytes: these are compared in a fraction of the time."""
+    return bytes(array.array("Q", map(id, things)))
+
+
+def stored_identities(things, begin=tuple.__basicsize__, read=ctypes.string_at):
+    """The same where a tuple has the addresses of its things behind its head, and identities are addresses, as in CPython."""
+    return read(id(things) + begin, WORD * len(things))
+
+
+if sys.implementation.name == "cpython" and all(stored_identities(some) == identities(some) for some in ((), (WORD,), (Roles, ROLES))):
+    identities = stored_identities
+
+
 def kind_of(thing):
     return name_of(type(thing))
 
 
 def place_of(thing):
     """The file and line at which the thing was made, where `tracemalloc` saw it."""
-    if not tracemalloc.is_tracing():
+    if not is_tracing():
         return None
+    import tracemalloc         # it takes a while, and most recordings do without
     found = tracemalloc.get_object_traceback(thing)
     if found:
         return f"{found[-1].filename}:{found[-1].lineno}"
@@ -92,7 +108,6 @@ def place_of(thing):
 
 def lines_before(thing):
     """The lines by which an object was made whose variables stand before it: Python 3.11 asks for another address than it noted."""
-    import ctypes
     ask = ctypes.pythonapi._PyTraceMalloc_GetTraceback
     ask.restype, ask.argtypes = ctypes.py_object, (ctypes.c_uint, ctypes.c_size_t)
     return ask(0, id(thing) - 4 * WORD)

@@ -51,7 +51,7 @@ class Trace:
 
     def take(self, lines):
         """Adds a window, if there is room for it."""
-        text = "".join(f"{line}\n" for line in lines.lines)
+        text = "\n".join([*lines.lines, ""])
         if self.operations + len(lines.lines) > self.most_operations or self.bytes + len(text) > self.most_bytes:
             return False
         self.windows += 1

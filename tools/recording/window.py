@@ -6,7 +6,7 @@ to it is stored, and filled at once, as deep as registers go, so most objects ne
 pass a register on the way is walked to. Each used object is read back once in the window.
 """
 from recording import walks
-from recording.forms import MOST, Cell, Form, first_shape, next_slots
+from recording.forms import MOST, WIDTH, Cell, Form, first_shape, next_slots, place_above
 from recording.roles import is_fixed, kind_of, place_of
 from recording.shelf import Shelf
 
@@ -74,11 +74,12 @@ class Window:
         if parent is None:
             self.say(f"gload {register} {self.graph.tops.index(node)}")
             return
-        cell, slot = parent.form.places[node]
-        for step in cell.way():
-            self.say(f"load {register} {source} {step}")
-            source = register
-        self.say(f"load {register} {source} {slot}")
+        place = parent.form.places[node]
+        if place >= WIDTH:
+            for step in parent.form.cell_at(place).way():
+                self.say(f"load {register} {source} {step}")
+                source = register
+        self.say(f"load {register} {source} {place % WIDTH}")
 
     def read_back(self, node, register):
         if node in self.used and node not in self.read:
@@ -150,13 +151,13 @@ class Window:
             self.store(form, register, place, BESIDE)
 
     def store(self, form, register, place, source):
-        cell, slot = place
-        self.say(f"store {self.come_to(form, register, cell)} {slot} {source}")
+        self.say(f"store {self.come_to(form, register, place)} {place % WIDTH} {source}")
 
-    def come_to(self, form, register, cell):
-        """The register that holds a cell of the node in `register`."""
-        if cell is form.head:
+    def come_to(self, form, register, place):
+        """The register that holds the cell of this place, of the node in `register`."""
+        if place < WIDTH:
             return register
+        cell = form.cell_at(place)
         if self.inner is not cell:
             source = register
             for step in cell.way():
@@ -170,10 +171,10 @@ class Window:
         form.take(place)
         self.say(f"drop {BESIDE}")
         self.store(form, register, place, BESIDE)
-        cell = place[0]
+        cell = form.cell_at(place)
         form.free.append(place)
         if not cell.taken and cell.above:
-            above = cell.above, cell.at
+            above = place_above(cell)
             form.remove(cell)
             self.lines.end(cell.identity)
             self.empty(form, register, above)
@@ -183,11 +184,11 @@ class Window:
         if not form.free:
             place = form.give_way()
             slots = next_slots(form)
-            source = self.come_to(form, register, place[0])
+            source = self.come_to(form, register, place)
             cell = Cell(self.lines.new(MADE, slots, 1, head=form.head.identity), slots, 1)
-            self.say(f"load {BESIDE} {source} {place[1]}")
+            self.say(f"load {BESIDE} {source} {place % WIDTH}")
             self.say(f"store {MADE} 0 {BESIDE}")
-            self.say(f"store {source} {place[1]} {MADE}")
+            self.say(f"store {source} {place % WIDTH} {MADE}")
             content = form.take(place)
             form.add(cell)
             form.put(form.free.pop(), content)
@@ -211,7 +212,7 @@ class Window:
             cell = form.pads[-1]
             form.remove(cell)
             self.lines.end(cell.identity)
-            self.empty(form, register, (cell.above, cell.at))
+            self.empty(form, register, place_above(cell))
 
     def end_what_is_gone(self):
         for node in self.change.gone:
