@@ -8,7 +8,7 @@
    first collection, as in `melt step`.
 
    The words are those of Melt, and what a collection makes of them too. A header is odd: its lowest byte is 1, or 3 where
-   the object is marked, and behind it stand the numbers of slots and of number words. The word behind the header is that
+   the object is marked, and after it stand the numbers of slots and of number words. The word after the header is that
    of the home, here 0. A reference is four times the number of the word where its object begins, numbered from 1, and a
    tag: 0, or 1 where it is marked; with the tag 3 it would be to a file, and 0 is none. A collection marks all objects, as no
    register holds one here, and all references. A reference to the copy, with the tag 0, takes the place of an old header.
@@ -67,7 +67,7 @@ static void fill(size_t objects, size_t refs, size_t nums) {
     }
 }
 
-/* The word of a reference behind the collection: that to the copy of its object, which is made now if there was none. */
+/* The word of a reference after the collection: that to the copy of its object, which is made now if there was none. */
 static inline word moved(word reference) {
     if (reference == 0 || (reference & TAG) == FILED) return reference;
     word *object = other + (reference >> 2) - 1;
@@ -86,8 +86,8 @@ static void collect(void) {
     global = moved(global);
     for (word *object = words; object < end; object += cost_of(object[0])) {
         object[0] |= MARK;
-        word *behind = object + HEAD + refs_of(object[0]);
-        for (word *slot = object + HEAD; slot < behind; slot++) *slot = moved(*slot);
+        word *after = object + HEAD + refs_of(object[0]);
+        for (word *slot = object + HEAD; slot < after; slot++) *slot = moved(*slot);
     }
 }
 

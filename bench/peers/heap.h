@@ -1,4 +1,4 @@
-/* A heap of words: objects are made one behind the other, and a collection copies what is reached into a second space,
+/* A heap of words: objects are made one after the other, and a collection copies what is reached into a second space,
    in the order of C. J. Cheney, "A Nonrecursive List Compacting Algorithm", Communications of the ACM 13 (1970).
 
    An object has HEAD words, then its slots, and then its number words; who includes this says how many HEAD is. The

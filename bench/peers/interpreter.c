@@ -19,7 +19,7 @@ enum { USAGE = 1, BAD_TRACE = 2, READ_FAULT = 3, OUT_OF_HEAP = 5, WRITE_FAULT = 
 static const size_t LONGEST = 16777216; /* bytes of a trace */
 static const uint64_t MOST = 1048576;   /* operations of a trace, with all blocks written out */
 
-static size_t line_number; /* of the line that is read; 0 before the first and behind the last one */
+static size_t line_number; /* of the line that is read; 0 before the first and after the last one */
 
 _Noreturn static void fail(int status, const char *why) {
     fprintf(stderr, "interpreter: line %zu: %s\n", line_number, why);
@@ -54,7 +54,7 @@ static void put_number(struct bytes *bytes, uint64_t number) {
     bytes->length += sizeof digits - (size_t)first;
 }
 
-/* What standard input has, or a front of it that is too long; a newline stands behind it. */
+/* What standard input has, or a front of it that is too long; a newline stands after it. */
 static struct bytes read_all(void) {
     struct bytes bytes = {0};
     size_t got;
@@ -68,7 +68,7 @@ static struct bytes read_all(void) {
     return bytes;
 }
 
-/* The language: what each line begins with, and which numbers stand behind that. */
+/* The language: what each line begins with, and which numbers stand after that. */
 
 enum name {
     NEW, LOAD, STORE, GET, PUT, GLOAD, GSTORE, SAME, COPY, DROP, COLLECT, /* the operations */
@@ -250,7 +250,7 @@ static size_t take_trace(struct text *text, size_t *begins) {
         count = bounded(count + take_program(text));
         if (count > MOST) refuse("too many operations");
     }
-    if (find_line(text)) refuse("a line behind the last done");
+    if (find_line(text)) refuse("a line after the last done");
     return threads;
 }
 

@@ -17,7 +17,7 @@ ROUNDS = (30, 150, 600)        # after so many traces it is seen whether a wrong
 LARGEST_CASE = 1_000_000  # bytes of a trace that a wrong program is run on
 
 # `rt try` tells the output of a program and its status, and throws its folder away. So each is built with a `main` that writes
-# its file behind its output, if there is one.
+# its file after its output, if there is one.
 MAIN = "melt_top/src/main.rt"
 END_OF_MAIN = "    ExitCode::from(status.code())\n"
 SHOWS_FILE = """    if let Ok(stale) = std::fs::read(&rt, "melt.stale") {
@@ -79,7 +79,7 @@ def write_cases(folder, given, numbers):
 
 
 def shown(stale):
-    """What is written of the file behind the output."""
+    """What is written of the file after the output."""
     return b"" if stale is None else b"melt.stale\n" + stale
 
 

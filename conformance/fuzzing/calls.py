@@ -3,7 +3,7 @@ import itertools
 import random
 
 from fuzzing import moving
-from fuzzing.damage import BEHIND, CHANGES, SELDOM
+from fuzzing.damage import AFTER, CHANGES, SELDOM
 from fuzzing.traces import KINDS
 from modelling.traces import LARGEST_INPUT, Refusal, operations_in, script_of
 from modelling.words import FLAGS, STEP_RANGES, Step, meant
@@ -129,14 +129,14 @@ def damaged(rng):
                 rng.choice(CHANGES)(rng, lines, rng.randrange(len(lines)))
     data = "".join(line + "\n" for line in lines) + last
     data = data[:-1 if rng.random() < 0.05 else None].encode("utf-8" if rng.random() < 0.1 else "latin-1")
-    data = changed_behind(rng, data) if rng.random() < 0.2 else data
+    data = changed_after(rng, data) if rng.random() < 0.2 else data
     return with_border(rng, words) if rng.random() < 0.1 else words, data
 
 
-def changed_behind(rng, data):
+def changed_after(rng, data):
     """The same bytes with one line more that is changed, in two of its fields or in its spaces too."""
     lines = data.decode("latin-1").split("\n")
-    rng.choice(BEHIND)(rng, lines, rng.randrange(len(lines)))
+    rng.choice(AFTER)(rng, lines, rng.randrange(len(lines)))
     return "\n".join(lines).encode("latin-1")
 
 

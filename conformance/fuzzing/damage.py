@@ -114,4 +114,4 @@ def last_number(rng, lines, at):
 CHANGES = [change_number, change_number, change_number, change_word, change_word, change_fields, change_fields, change_byte,
            change_byte, drop_line, drop_line, drop_rest, double_line, swap_lines, put_line, put_line, put_blocks]
 SELDOM = [*[wrong_blocks] * 5, *[many_orders] * 6, long_input]
-BEHIND = [two_numbers, last_number]   # in a trace that was changed otherwise, or not
+AFTER = [two_numbers, last_number]   # in a trace that was changed otherwise, or not

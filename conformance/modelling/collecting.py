@@ -9,15 +9,15 @@ INACTIVE, MARK, MOVE = "inactive", "mark", "move"
 class Entry(NamedTuple):
     """What is told of a collection. The records are those that were written since the one before."""
     phase: str
-    held: int             # the words of the objects that registers hold, behind it
-    live: int             # the words in use behind it
+    held: int             # the words of the objects that registers hold, after it
+    live: int             # the words in use after it
     bodies: int
     stubs: int
-    end: int              # the first word of the disk behind all homes
+    end: int              # the first word of the disk after all homes
 
 
 def next_phase(entry, options):
-    """The phase that is planned behind a collection."""
+    """The phase that is planned after a collection."""
     if 100 * entry.live < options.mark * options.heap:
         return INACTIVE
     if 100 * entry.live >= options.move * options.heap and entry.phase in (MARK, MOVE):

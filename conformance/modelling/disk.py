@@ -111,7 +111,7 @@ class WordsInFile:
 
 
 def new_file(path):
-    """A new file at the path, which only its owner may read and write. Behind the removal of what is there another run may have
+    """A new file at the path, which only its owner may read and write. After the removal of what is there another run may have
     made its own, so both are tried again, but not for ever."""
     for _ in range(TRIES):
         with contextlib.suppress(FileNotFoundError):
@@ -130,7 +130,7 @@ def called(function, *arguments):
 
 
 class Disk:
-    """Homes, one behind the other from word 1 on, and their records."""
+    """Homes, one after the other from word 1 on, and their records."""
 
     def __init__(self, limit, words):
         self.limit, self.end, self.words = limit, 1, words

@@ -53,7 +53,7 @@ class Turns:
         self.left = 0         # events left of the line that was begun
         self.begun = None     # its thread
         self.threads = threads
-        self.next = 0         # the thread whose turn it is behind the last line
+        self.next = 0         # the thread whose turn it is after the last line
 
     def give(self):
         """The thread of the next event, or None where no thread can have one."""
@@ -222,7 +222,7 @@ class Run:
 
     def serve(self, thread):
         """Makes the call of a thread that lacked room or an empty forwarding word as a whole, or ends the thread where
-        what registers hold leaves it no room. A disk that lies can leave none behind two Moves either."""
+        what registers hold leaves it no room. A disk that lies can leave none after two Moves either."""
         moves = 0
         while not self.is_made(thread):
             held = words_held(self.threads)

@@ -86,7 +86,7 @@ class Reader:
         self.heading = 0      # how many of the first three lines have been read
         self.open = None      # the blocks that are open in the program, the program itself first; None outside
         self.operations = 0   # of the programs that are done
-        self.said = {}        # what the lines say that were read behind the first three: a word and its numbers
+        self.said = {}        # what the lines say that were read after the first three: a word and its numbers
 
     def is_over(self):
         return self.heading == 3 and self.open is None and len(self.script.programs) == self.script.threads

@@ -53,7 +53,7 @@ def test_heaps_came_back_in_threads(folder):
     """So it is of several threads, which all have a collection added."""
     path = generated("queue", 40, threads=3)
     ran = heaps("--csv", "--from", 1000, "--to", 120, path, "--", *MOVING)
-    assert "a collection is added behind the last operation of each of 3 threads" in ran.told, ran
+    assert "a collection is added after the last operation of each of 3 threads" in ran.told, ran
     compare(path, rows_of(ran.out), *MOVING)
 
 
@@ -123,7 +123,7 @@ def sentence(rows, need, uses):
 
 
 def test_heaps_from_and_to(folder):
-    """--from and --to say which halves are tried, also behind a run that is not done; --heap tries one."""
+    """--from and --to say which halves are tried, also after a run that is not done; --heap tries one."""
     path = generated("table", 100)
     tried = [int(row["heap"]) for row in rows_of(heaps("--csv", "--from", 300, "--to", 16, path).out)]
     assert {300, 150, 75, 37, 18, 16} <= set(tried), tried

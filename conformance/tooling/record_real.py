@@ -36,5 +36,5 @@ def test_trees(folder):
     if importlib.util.find_spec("lib2to3") is None:
         print("test_trees: this Python has no lib2to3, so this program is left out")
         return
-    real("trees", 3, "--watch", "lib2to3", "--from-use", 70_000)      # behind the making of the grammar
+    real("trees", 3, "--watch", "lib2to3", "--from-use", 70_000)      # after the making of the grammar
     assert any(way.startswith("trees.trees > dict > Node") for way in ways("trees", "Leaf"))

@@ -117,7 +117,7 @@ def test_full(folder):
     full = program("full.py", text)
     ran = recorded("full", "--window", 50, "--operations", 1000, full)
     assert ran.out == "end\n" and "the trace is full" in ran.told, ran
-    assert f"stopped behind use {uses('full')}" in ran.told and 700 < len(operations("full")) <= 1000
+    assert f"stopped after use {uses('full')}" in ran.told and 700 < len(operations("full")) <= 1000
     os.mkdir("none")
     ran = record("--out", "none/full", "--operations", 10, full)
     assert ran.status == 3 and "the trace is full" in ran.told and ran.out == "end\n", ran

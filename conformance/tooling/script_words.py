@@ -14,7 +14,7 @@ from tooling.replays import MELT, program_that, trace
 
 SCRIPT = TOP / "melt"
 PARTS = TOP / "tools/script"
-# Reads lists of words, each ended by an empty word, and prints what is wrong with each, and a line of its own behind that.
+# Reads lists of words, each ended by an empty word, and prints what is wrong with each, and a line of its own after that.
 JUDGES = """parts=$0; . "$parts/words.bash"; words=()
 while IFS= read -r -d '' word; do
     if [[ $word == "$1" ]]; then wrong_words "${words[@]}"; echo "$1"; words=(); else words+=("$word"); fi
@@ -75,7 +75,7 @@ def test_script_words(folder):
 
 
 def test_script_first_wrong_word(folder):
-    """Of several words that are wrong the first is told, and what is missing behind all that stand there."""
+    """Of several words that are wrong the first is told, and what is missing after all that stand there."""
     number = "a number of words from 16 to 4194304"
     for words, told in ((["step", "--heap", "64k", "--disk", "1"], f"--heap 64k: {number}, without a unit"),
                         (["step", "--quiet", "--heap", "16", "--heap", "x"], "--heap is given twice"),
@@ -134,7 +134,7 @@ def test_script_help(folder):
 
 
 def test_script_silent(folder):
-    """Behind status 0 nothing is told, and nothing at all where it is not asked to; the program's words and output go through."""
+    """After status 0 nothing is told, and nothing at all where it is not asked to; the program's words and output go through."""
     program = program_that("echoes", 'printf "%s." "$@"; cat; echo "from the program" >&2; exit 0')
     ran = melt("step", "--heap 16", "", program=program, input="a trace\n")
     assert ran == (0, "step.--heap 16..a trace\n", "from the program\n"), ran
@@ -144,7 +144,7 @@ def test_script_silent(folder):
 
 
 def test_script_disk_fault(folder):
-    """Behind status 4 it is told what stands at the name of the disk, whether a file can be made, and what room there is."""
+    """After status 4 it is told what stands at the name of the disk, whether a file can be made, and what room there is."""
     fails = program_that("fails", "exit 4")
     stands = {"not there": "true", "a file of 8 bytes": "printf 12345678 > melt.stale", "a folder": "mkdir melt.stale",
               "a FIFO": "mkfifo melt.stale", "a link to nowhere, not there": "ln -s nowhere melt.stale",
@@ -178,7 +178,7 @@ def test_script_changed_trace(folder):
 
 
 def test_script_terminal(folder):
-    """That a trace is read from the terminal is told where one is read, and not behind words that are refused."""
+    """That a trace is read from the terminal is told where one is read, and not after words that are refused."""
     for words, is_read in ((["step"], True), (["run", "--heap", "50"], True), (["step", "--heap", "5"], False), (["gen"], False)):
         ours, theirs = pty.openpty()
         program = program_that("stands", "exit 0")

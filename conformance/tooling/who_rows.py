@@ -59,7 +59,7 @@ def test_who_help(folder):
 
 
 def test_who_table(folder):
-    """Objects and words of each kind and place, made, kept behind each third, and on disk; the largest first."""
+    """Objects and words of each kind and place, made, kept after each third, and on disk; the largest first."""
     written(WORDS)
     ran = who("--csv", "shop.kinds", "melt.stale", melt="nowhere")
     assert ran.status == 0 and ran.out == TABLE and "thirds end at the uses 30, 60, 90" in ran.told, ran
@@ -92,7 +92,7 @@ DAMAGE = {                     # what is wrong, the words, and at which of them 
     "a slot that is an address": (changed(3, 4), 3), "a slot that leads to no record": (changed(3, 9 * 4 + 3), 3),
     "no identity": (changed(4, 0), 4), "an identity that is not there": (changed(4, 7), 4), "another shape": (changed(4, 6), 1),
     "twice": (changed(8, *record_of(BODY, 8, 0, [0], [1, 0, 0, 0])), 11), "no number word": ([0, *record_of(BODY, 1, 0, [0], [])], 1),
-    "cut in a Body": (WORDS[:5], 1), "cut in a head": (WORDS[:-1], 27), "more behind": (WORDS + [0, 0], 30),
+    "cut in a Body": (WORDS[:5], 1), "cut in a head": (WORDS[:-1], 27), "more after": (WORDS + [0, 0], 30),
 }
 
 

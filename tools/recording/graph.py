@@ -277,7 +277,7 @@ def is_worth(depth, before):
 
 
 class Ways:
-    """The tree of ways, brought up to date behind references that were added and removed.
+    """The tree of ways, brought up to date after references that were added and removed.
 
     An object stays where it hangs as long as that reference is there, unless a new one is a far shorter way: else all that hangs
     from an object would be gone through whenever a frame holds it, and again when not. So depths are bounds. What counts is

@@ -1,4 +1,4 @@
-"""The recorder: counts the uses of a program, ends a window behind each N of them, and stops where the trace is full.
+"""The recorder: counts the uses of a program, ends a window after each N of them, and stops where the trace is full.
 
 While a window ends, the program stands: other threads wait at their next use. What lives when it ends is seen, and what was made and
 went away within it is not.
@@ -35,7 +35,7 @@ class WithoutCollections:
 
 
 class Recorder:
-    """`on_window` is told of the recorder behind each window, and `on_stop` once, when nothing more will be recorded."""
+    """`on_window` is told of the recorder after each window, and `on_stop` once, when nothing more will be recorded."""
 
     def __init__(self, trace, window, first_use, way, on_window, on_stop):
         self.trace, self.window, self.first_use, self.way = trace, window, first_use, way
@@ -48,7 +48,7 @@ class Recorder:
         self.stopped = self.failed = None     # why no more is recorded; what went wrong
         self.has_begun = first_use == 1
         self.length = window if self.has_begun else first_use - 1
-        self.counted = 0           # uses behind the ends of windows
+        self.counted = 0           # uses after the ends of windows
         self.used = {}
         self.use, self.left = self.counter(self.length)
         hidden.update(map(id, (self.use, self.used, self.__dict__)))

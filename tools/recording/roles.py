@@ -82,7 +82,7 @@ def identities(things):
 
 
 def stored_identities(things, begin=tuple.__basicsize__, read=ctypes.string_at):
-    """The same where a tuple has the addresses of its things behind its head, and identities are addresses, as in CPython."""
+    """The same where a tuple has the addresses of its things after its head, and identities are addresses, as in CPython."""
     return read(id(things) + begin, WORD * len(things))
 
 

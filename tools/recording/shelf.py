@@ -4,7 +4,7 @@ The first globals lead to a cell each, and the last ones to cells of such cells.
 """
 from recording.forms import MOST
 
-FIRST_GLOBAL, FLAT, DEEP = 2, 40, 22      # behind the two tops
+FIRST_GLOBAL, FLAT, DEEP = 2, 40, 22      # after the two tops
 CHUNK, BESIDE = 0, 1                      # the register of the cell that was used last, and one beside it
 MOST_PLACES = (FLAT + DEEP * MOST) * MOST
 

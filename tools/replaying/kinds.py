@@ -1,7 +1,7 @@
 """The file NAME.kinds of a recording, and which of its objects a file melt.stale has on the disk.
 
 Number word 0 of each object of a trace is its identity, which is never changed, so a Body tells whose it is. A Stub does not: its
-words behind the second one mean nothing, and its object may be one that never left.
+words after the second one mean nothing, and its object may be one that never left.
 """
 from typing import NamedTuple, Optional
 

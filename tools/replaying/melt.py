@@ -118,7 +118,7 @@ class Melt:
 
     @contextlib.contextmanager
     def run(self, data, threads, heap, other=None):
-        """Runs a trace, and removes the folder of the run behind it. Words or a trace that are refused end the tool."""
+        """Runs a trace, and removes the folder of the run after it. Words or a trace that are refused end the tool."""
         self.runs += 1
         self.progress(f"run {self.runs}, in a heap of {heap} words")
         options = {**self.options, **(other or {}), "--heap": heap}

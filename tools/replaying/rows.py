@@ -76,7 +76,7 @@ class Row(NamedTuple):
 
 def row_of(replay, heap, uses, unsettled):
     """The row of a run, which may have failed: its `end` says so then. `unsettled` objects can be back without a Stub in the end,
-    where there was no collection behind the last operation."""
+    where there was no collection after the last operation."""
     known = {"heap": heap, "seconds": replay.seconds, "uses": uses.number, "is_done": replay.is_done}
     if not replay.tells_of_heap:
         return Row(**known, end=replay.end, fault=replay.end)

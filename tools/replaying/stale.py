@@ -1,7 +1,7 @@
-"""The file melt.stale: records, one behind the other from word 1 on, by the format in docs/FORMATS.md.
+"""The file melt.stale: records, one after the other from word 1 on, by the format in docs/FORMATS.md.
 
-Homes are given one behind the other and written in the same collection, so the records leave no gap, and a word that is no record is
-damage. Of a Stub two words are written: where it is the last record, the file may end behind them.
+Homes are given one after the other and written in the same collection, so the records leave no gap, and a word that is no record is
+damage. Of a Stub two words are written: where it is the last record, the file may end after them.
 """
 import array
 import sys

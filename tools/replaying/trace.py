@@ -37,7 +37,7 @@ class Trace:
             at += len(line) + 1
 
     def settled(self):
-        """The trace with a `collect` behind the last operation of each thread, or None where it has no room for them.
+        """The trace with a `collect` after the last operation of each thread, or None where it has no room for them.
 
         What came back is settled by the next collection. Which thread ends last is not known beforehand, so each has one."""
         if self.operations + self.threads > MOST_OPERATIONS or len(self.data) + self.threads * len(COLLECT) > MOST_BYTES:

@@ -40,7 +40,7 @@ tick() {
     done
 }
 
-# Builds a crate, and writes how long that took behind its line.
+# Builds a crate, and writes how long that took after its line.
 build_told() {
     local line=$1 name=$2 since=$SECONDS ticker='' status
     if [[ -t 2 ]]; then

@@ -79,9 +79,9 @@ page_of_run() {
     page_line disk N 'words of the disk'
     page_line mark P 'hundredths of the heap in use from which on collections mark objects'
     page_line move P 'hundredths from which on marked objects move to the disk, not below --mark'
-    page_line every N 'each thread waits for a collection behind each N-th of its operations'
+    page_line every N 'each thread waits for a collection after each N-th of its operations'
     page_line quiet '' 'counts and sums in the place of replies'
-    page_line table '' 'a table of the collections, behind the threads'
+    page_line table '' 'a table of the collections, after the threads'
     [[ $1 == run ]] || page_line log '' 'the history of the heap, at the end; of step alone'
 }
 

@@ -47,7 +47,7 @@ say_place() {
     case $1 in
         melt | threads | globals) say "'$1' stands once, in the first three lines, blank lines and comments aside." ;;
         order) say "An 'order' line stands in front of the first 'thread' line." ;;
-        thread) say "A 'thread' line stands behind the 'done' of the program before, as many as 'threads' says." ;;
+        thread) say "A 'thread' line stands after the 'done' of the program before, as many as 'threads' says." ;;
         end) say "There is no open 'repeat' that this 'end' could belong to." ;;
         done) say "Here is no program that this 'done' could end, or a 'repeat' in it lacks its 'end'." ;;
         *) if [[ $2 ]]; then

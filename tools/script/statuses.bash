@@ -10,7 +10,7 @@ tell() {
         4) tell_disk_fault ;;
         5) say "a line 'end out-of-heap HELD NEED' says that a thread ended since a 'new' or a load found no room:" \
             'registers held HELD words, which move to no disk, its object needs NEED, and the heap has fewer words than both together.' \
-            'So no heap of fewer words than their sum has room there, and more may be needed behind it.' \
+            'So no heap of fewer words than their sum has room there, and more may be needed after it.' \
             'tools/heaps looks for a heap that suffices: tools/heaps FILE' ;;
         6) say "a line 'halt disk-full END NEED LIMIT' says that the run was ended since a collection had to move" \
             'more than the disk has room for: the words below END are taken, it needs NEED more, and LIMIT are there.' \

@@ -23,7 +23,7 @@ wrong_words() {
     esac
 }
 
-# Says what is wrong with the words behind a command, or keeps the values in `given` and answers 1.
+# Says what is wrong with the words after a command, or keeps the values in `given` and answers 1.
 wrong_option() {
     local LC_ALL=C command=$1 word name
     shift
@@ -52,7 +52,7 @@ wrong_name() {
     [[ $word == --* && $name =~ ^[a-z]+$ ]] && owners=${commands_of[$name]-}
     word=$(shown "$word")
     if [[ $word == --help ]]; then
-        echo "--help: no option. It stands alone, or alone behind a command"
+        echo "--help: no option. It stands alone, or alone after a command"
     elif [[ -z $owners ]]; then
         echo "$word: no option of $command. Its options are $(options_of "$command")"
         [[ -f $2 ]] && from_standard_input "$2"

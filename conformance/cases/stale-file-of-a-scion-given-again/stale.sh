@@ -20,7 +20,7 @@ printf '\163\0\0\0\0\0\0\0'              # home 28, which is 28 * 4 + 3
 printf '\001\001\0\0\023\0\0\0'          # a Body, one slot, no number words, home 19: the object of global 0
 printf '\0\0\0\0\0\0\0\0'
 printf '\133\0\0\0\0\0\0\0'              # home 22, which is 22 * 4 + 3
-printf '\001\001\0\0\026\0\0\0'          # a Body, one slot, no number words, home 22: it had scion 2 behind it, which was given last, and was found first
+printf '\001\001\0\0\026\0\0\0'          # a Body, one slot, no number words, home 22: it had scion 2 after it, which was given last, and was found first
 printf '\0\0\0\0\0\0\0\0'
 printf '\147\0\0\0\0\0\0\0'              # home 25, which is 25 * 4 + 3
 printf '\001\0\001\0\031\0\0\0'          # a Body, no slots, one number word, home 25

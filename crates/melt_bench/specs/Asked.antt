@@ -1,4 +1,4 @@
--- What the words behind the command `run` ask for.
+-- What the words after the command `run` ask for.
 use Rattle.std.specs.Prelude.{ℕ, ◌==◌, true, if◌then◌else◌, List, [], ◌∷◌, Option, None, Some, codes}
 use Rattle.std.specs.Prelude.{option_and_then}
 use Rattle.std.specs.List.{after_first, before_first}
@@ -26,7 +26,7 @@ with_named asked name number =
     if bytes_eq name (codes "time") then Some (record asked { timed = number })
     else option_map (λ config. record asked { config = config }) (with_setting asked.config name number)
 
--- the same, and what one more word asks for, if it asks for something: a number stands behind the first `=` of a word
+-- the same, and what one more word asks for, if it asks for something: a number stands after the first `=` of a word
 abbrev pub with_word : Asked → (word : List ℕ) → Option Asked
 with_word asked word =
     if bytes_eq word (codes "file") then Some (record asked { is_on_file = true })

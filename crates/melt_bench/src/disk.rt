@@ -36,7 +36,7 @@ fn slots_of(home: u32) -> [u64; 6]
     [itself, 0, number, number << 16, !number, PRIME]
 }
 
-/// Writes so many records to the disk, one behind another.
+/// Writes so many records to the disk, one after another.
 fn write_records<D: StaleDisk>(disk: &mut D, count: u32) -> Result<StaleSpace<'_, D>> {
     let mut space = StaleSpace::new(disk, u32::MAX);
     for _ in 0..count {
@@ -72,7 +72,7 @@ pub fn checksum<D: StaleDisk>(alloc: Global, disk: &mut D, count: u32) -> Result
     Ok(sum)
 }
 
-/// What the word behind `disk` asks for.
+/// What the word after `disk` asks for.
 pub fn bench(rt: HostRuntime, words: &[String]) -> Result<()> {
     let [count] = words else {
         bail!("`disk` takes one word: how many records");

@@ -90,7 +90,7 @@ fn tell_walks<X: Threads + Wait + Sync + Clock + Print>(
     Ok(())
 }
 
-/// What the words behind `epoch` ask for.
+/// What the words after `epoch` ask for.
 pub fn bench<X: Threads + Wait + Sync + Clock + Print>(
     rt: &X,
     files: HostRuntime,

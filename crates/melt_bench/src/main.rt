@@ -1,5 +1,5 @@
 //! Programs that `bench/` times. The first word is the command: `disk` writes records and reads them back, `epoch`
-//! makes calls on an epoch, and `run` runs a trace by real threads. The words behind it are those of the command.
+//! makes calls on an epoch, and `run` runs a trace by real threads. The words after it are those of the command.
 #![tactic(auto)]
 
 mod disk;

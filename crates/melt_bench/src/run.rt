@@ -51,7 +51,7 @@ fn tell_time(rt: &impl Print, took: Duration) -> io::Result<()> {
     println!(rt; "nanoseconds {}", took.as_nanos())
 }
 
-/// What the words behind `run` ask for.
+/// What the words after `run` ask for.
 pub fn bench<X: Threads + Sync + Clock + Print>(
     rt: &X,
     files: HostRuntime,

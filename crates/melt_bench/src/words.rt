@@ -1,4 +1,4 @@
-//! The numbers among the words behind a command.
+//! The numbers among the words after a command.
 ghost use Rattle.std.specs.Prelude.{◌≡◌, None, Some, IfOk, OnErr};
 ghost use Rattle.melt_trace.specs.Language.{number_of};
 ghost use Rattle.melt_bench.specs.Words.{within_word};

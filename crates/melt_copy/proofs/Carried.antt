@@ -15,7 +15,7 @@ use Rattle.melt_scion.specs.Collected.{Taken}
 use Rattle.melt_scion.proofs.Reaching.{reached_named}
 use Rattle.melt_copy.specs.declared.forwarding.Relocation.{Relocation}
 use Rattle.melt_copy.specs.Moving.{Carries, header_after, maps_after, name_after, stale_after}
-use Rattle.melt_copy.proofs.Places.{place_behind, place_below, place_found, same_place, same_source, takes_word}
+use Rattle.melt_copy.proofs.Places.{place_after, place_below, place_found, same_place, same_source, takes_word}
 use Rattle.melt_copy.proofs.Sources.{source_object, source_cost, source_shape, found_fits, found_words, goes}
 use Rattle.melt_copy.proofs.Renaming.{comes, name_after-at}
 
@@ -34,12 +34,12 @@ bit_goes Inactive held s a old later is holds back = is
 bit_goes Mark held s a old later is holds back = bit_set held s a old.stale later.stale is holds back
 bit_goes Move held s a old later is holds back = bit_set held s a old.stale later.stale is holds back
 
-in_front : (k front : ℕ) → nat_lt k front ≡ true → k < front
-in_front k front is =
-    elim (cases_lt k front) [ inl below ↦ below | inr above ↦ absurd (let not = le-ltb k front above in cc) ]
+in_front : (k held_count : ℕ) → nat_lt k held_count ≡ true → k < held_count
+in_front k held_count is =
+    elim (cases_lt k held_count) [ inl below ↦ below | inr above ↦ absurd (let not = le-ltb k held_count above in cc) ]
 
-module _ (phase : Phase) (maps : Maps) (s t : State) (f : ℕ → ℕ) (moves : List Relocation) (front : ℕ)
-    (carries : Carries phase s t f moves front) where
+module _ (phase : Phase) (maps : Maps) (s t : State) (f : ℕ → ℕ) (moves : List Relocation) (held_count : ℕ)
+    (carries : Carries phase s t f moves held_count) where
   -- a place is a number of 30 bits
   pub place_small : (k : ℕ) (m : Relocation) → slice_get moves k ≡ Some m → m.to < 2 ^ 30
   place_small k m at =
@@ -60,7 +60,7 @@ module _ (phase : Phase) (maps : Maps) (s t : State) (f : ℕ → ℕ) (moves : 
   pub free_within : t.free ≤ t.base.size + 1
   free_within =
       let words = found_words s f moves t.free carries.whole carries.found in
-      omega (arith, words, carries.found.behind, carries.size, carries.whole.inside)
+      omega (arith, words, carries.found.after, carries.size, carries.whole.inside)
 
   -- the number at a place
   pub carried_name : (k : ℕ) (m : Relocation) → slice_get moves k ≡ Some m
@@ -84,10 +84,10 @@ module _ (phase : Phase) (maps : Maps) (s t : State) (f : ℕ → ℕ) (moves : 
 
   -- the header at a place
   pub header_there : (k : ℕ) (m : Relocation) (b : ℕ) (header : Header) → (at : slice_get moves k ≡ Some m) → m.to ≡ b
-      → HeaderAt t b header → header ≡ header_after phase (nat_lt k front) (carries.found.whole k m at).header
+      → HeaderAt t b header → header ≡ header_after phase (nat_lt k held_count) (carries.found.whole k m at).header
   header_there k m b header at to starts =
       let is = carries.found.whole k m at in
-      same_header header (header_after phase (nat_lt k front) is.header) starts.in_range is.starts.in_range
+      same_header header (header_after phase (nat_lt k held_count) is.header) starts.in_range is.starts.in_range
       (sym starts.word ∙ (ap t.word (sym to) ∙ carries.header k m is.header at is.starts))
 
   -- and its shape that of the move
@@ -102,7 +102,7 @@ module _ (phase : Phase) (maps : Maps) (s t : State) (f : ℕ → ℕ) (moves : 
       let is = carries.found.whole k m at in
       let place = place_below s f moves t.free k m carries.found at in
       let cost = source_cost s m is in (
-        header_after phase (nat_lt k front) is.header,
+        header_after phase (nat_lt k held_count) is.header,
         record {
           starts = record { in_range = is.starts.in_range; word = carries.header k m is.header at is.starts };
           first = place.0;
@@ -126,8 +126,8 @@ module _ (phase : Phase) (maps : Maps) (s t : State) (f : ℕ → ℕ) (moves : 
         let one : x ≡ y = same_Some x y (sym first ∙ (ap (slice_get moves) is ∙ second)) in
         absurd (let to : x.to ≡ y.to = ap (λ (m : Relocation). m.to) one in omega arith)
     | inr other ↦ elim other [
-      | inl below ↦ omega (arith, place_behind i j carries.found first second below)
-      | inr above ↦ absurd (omega (arith, place_behind j i carries.found second first above))
+      | inl below ↦ omega (arith, place_after i j carries.found first second below)
+      | inr above ↦ absurd (omega (arith, place_after j i carries.found second first above))
     ]
   ]
 
@@ -140,7 +140,7 @@ module _ (phase : Phase) (maps : Maps) (s t : State) (f : ℕ → ℕ) (moves : 
     pub to : move.to ≡ f a
     pub shape : header.shape ≡ move.shape
     pub starts : HeaderAt s move.from header
-    pub there : HeaderAt t (f a) (header_after phase (nat_lt index front) header)
+    pub there : HeaderAt t (f a) (header_after phase (nat_lt index held_count) header)
 
   pub found_at : (a : ℕ) (header : Header) → f a ≢ 0 → HeaderAt s a header → FoundAt a header
   found_at a header some starts =
@@ -163,13 +163,13 @@ module _ (phase : Phase) (maps : Maps) (s t : State) (f : ℕ → ℕ) (moves : 
   -- each word up to the end belongs to an object
   pub word_taken : Formed maps s → (at : ℕ) → 1 ≤ at → at < t.free → Taken (maps_after maps moves) t at
   word_taken formed at first below =
-      let w = takes_word moves (at - 1) (omega (arith, carries.found.behind)) in
+      let w = takes_word moves (at - 1) (omega (arith, carries.found.after)) in
       let is = carries.found.whole w.index w.move w.is in
       let place = carries.found.places w.index w.move w.is in
       let n = reached_named maps s w.move.from formed is.reached in
       record {
         address = w.move.to;
-        header = header_after phase (nat_lt w.index front) is.header;
+        header = header_after phase (nat_lt w.index held_count) is.header;
         named = (n.0, carried_name w.index w.move w.is ∙ n.1);
         starts = record {
           in_range = is.starts.in_range;
@@ -188,7 +188,7 @@ module _ (phase : Phase) (maps : Maps) (s t : State) (f : ℕ → ℕ) (moves : 
 
   -- the first objects are those in registers, none of which has the stale bit
   held_bit : Formed maps s → (a : ℕ) (header : Header) (x : FoundAt a header) → HeaderAt s a header → HoldsAt s a
-      → (nat_lt x.index front ≡ true) × (header.stale ≡ false)
+      → (nat_lt x.index held_count ≡ true) × (header.stale ≡ false)
   held_bit formed a header x starts holds =
       let first = (source_object s x.move carries.whole (carries.found.whole x.index x.move x.is)).first in
       let full : s.register holds.thread holds.register ≢ 0 =
@@ -200,15 +200,15 @@ module _ (phase : Phase) (maps : Maps) (s t : State) (f : ℕ → ℕ) (moves : 
         | inl nought ↦ absurd (full nought)
         | inr held ↦ subst (IsFresh s) holds.holds held.1
       ] in
-      (lt-ltb x.index front (omega (arith, one, m.3)), fresh header starts)
+      (lt-ltb x.index held_count (omega (arith, one, m.3)), fresh header starts)
 
   -- so the stale bit is as the phase leaves it
   pub marked : Formed maps s → (a : ℕ) (header : Header) (x : FoundAt a header) → HeaderAt s a header
-      → BitGoes phase s a header (header_after phase (nat_lt x.index front) header)
+      → BitGoes phase s a header (header_after phase (nat_lt x.index held_count) header)
   marked formed a header x starts =
-      bit_goes phase (nat_lt x.index front) s a header (header_after phase (nat_lt x.index front) header) refl
+      bit_goes phase (nat_lt x.index held_count) s a header (header_after phase (nat_lt x.index held_count) header) refl
       (λ held.
-      let h = carries.held.each x.index x.move x.is (in_front x.index front held) in
+      let h = carries.held.each x.index x.move x.is (in_front x.index held_count held) in
       record { thread = h.0; register = h.1; holds = h.2 ∙ x.from })
       (held_bit formed a header x starts)
 

@@ -36,9 +36,9 @@ none_of : (o : Option ℕ) → ((n : ℕ) → o ≡ Some n → ⊥) → o ≡ No
 none_of None none = refl
 none_of (Some n) none = absurd (none n refl)
 
--- no object stands behind the words in use
-pub none_behind : (maps : Maps) (s : State) (k : ℕ) → Formed maps s → s.free ≤ k → maps.address k ≡ None
-none_behind maps s k formed above =
+-- no object stands after the words in use
+pub none_after : (maps : Maps) (s : State) (k : ℕ) → Formed maps s → s.free ≤ k → maps.address k ≡ None
+none_after maps s k formed above =
     none_of (maps.address k) (λ n named. let object = formed.words.objects k n named in
     let below : k + cost_of object.0.shape ≤ s.free = object.1.below in omega (arith, below, above))
 
@@ -47,10 +47,10 @@ pub can_rename : {used : ℕ} (size : ℕ) (pairs : NamePairs) (maps : Maps) (na
     → NumbersAre names moves numbers → used ≤ size → ((k : ℕ) → used < k → maps.address k ≡ None)
     → ((k : ℕ) (m : Relocation) → slice_get moves k ≡ Some m → (1 ≤ m.to) × (m.to ≤ used)) → PlacesApart moves
     → MayRename used names moves numbers
-can_rename size pairs maps None moves numbers has made are fits behind places apart = apart
-can_rename size pairs maps (Some names) moves numbers has made are fits behind places apart = record {
+can_rename size pairs maps None moves numbers has made are fits later places apart = apart
+can_rename size pairs maps (Some names) moves numbers has made are fits later places apart = record {
   room = omega (arith, made, fits);
-  behind = λ k above. sym (has.0 k) ∙ behind k above;
+  after = λ k above. sym (has.0 k) ∙ later k above;
   numbers_are = are;
   places = places;
   apart = apart;
@@ -120,7 +120,7 @@ put_copy : {phase : Phase} {old new : Heap} {held after : List Registers} (disk 
     → IsSettled old → (is : IsCopied phase (state_of old held disk) copied)
     → IsPutBack old new held after copied
     → IsCopy phase (state_of old held disk) (state_of new after disk) (place_of copied.moves)
-    copied.moves is.front
+    copied.moves is.held_count
 put_copy {phase} {old} {new} {held} disk {copied} settled is put =
     let s : State = state_of old held disk in
     let f = place_of copied.moves in
@@ -154,14 +154,14 @@ put_copy {phase} {old} {new} {held} disk {copied} settled is put =
     }
 
 -- what the journal of a collection says
-pub record IsToldBy (journal : Journal) (phase : Phase) (copied : Copied) (used : ℕ) : Type 0 where
+pub record JournalSays (journal : Journal) (phase : Phase) (copied : Copied) (used : ℕ) : Type 0 where
   pub held : journal.held ≡ copied.held
   pub rest : Journals journal phase used
 
 -- what was put back is a collection
 pub put_collects : {old new : Heap} {held after : List Registers} {copied : Copied} {phase : Phase} {journal : Journal}
     → IsCopying phase → IsSettled old → CopiesHeap phase old held copied → IsPutBack old new held after copied
-    → IsToldBy journal phase copied new.space.used → Collects old held new after phase journal
+    → JournalSays journal phase copied new.space.used → Collects old held new after phase journal
 put_collects {old} {new} {held} {after} {copied} {phase} {journal} copying settled copies put told = record {
   each = λ maps disk names formed.
       let s : State = state_of old held disk in
@@ -170,12 +170,12 @@ put_collects {old} {new} {held} {after} {copied} {phase} {journal} copying settl
       let moves = copied.moves in
       let is = copies maps disk formed in
       let copy = put_copy disk settled is put in
-      let carries = copy_carries phase maps s t f moves is.front is.whole copy formed copying in
+      let carries = copy_carries phase maps s t f moves is.held_count is.whole copy formed copying in
       let live : journal.live ≡ words_in moves =
       (let words = told.rest.live_words ∙ put.space.used in
-      let behind = is.holds.behind in
-      omega (arith, words, behind)) in
-      let held_is : journal.held ≡ words_in (take is.front moves) = told.held ∙ is.held_words in
+      let later = is.holds.after in
+      omega (arith, words, later)) in
+      let held_is : journal.held ≡ words_in (take is.held_count moves) = told.held ∙ is.held_words in
       record {
         after = maps_after maps moves;
         to = f;
@@ -183,12 +183,12 @@ put_collects {old} {new} {held} {after} {copied} {phase} {journal} copying settl
         scion = old_scion s;
         names = has_names maps old.names new.names old.maps new.maps moves
             (moves_apart s copied is) names put.names;
-        collected = copy_collects phase maps s t f moves is.front is.whole copy formed copying;
+        collected = copy_collects phase maps s t f moves is.held_count is.whole copy formed copying;
         live = subst (CountsWords t (IsNamed (maps_after maps moves))) (sym live)
-            (live_words phase maps s t f moves is.front carries formed);
+            (live_words phase maps s t f moves is.held_count carries formed);
         held_words = subst (CountsWords s (HeldAt s)) (sym held_is)
-            (held_words phase maps s t f moves is.front carries);
-        told = told.rest;
+            (held_words phase maps s t f moves is.held_count carries);
+        journals = told.rest;
       };
   tables = record {
     scions = record { is_table = put.scions.is_table; size = put.scions.size };

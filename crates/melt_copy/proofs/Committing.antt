@@ -51,7 +51,7 @@ forwards_more f old new i d x before within here = record {
         subst (λ (u : ℕ). register_in (slice_set new i x) u r ≡ f (register_in old u r)) (sym same) at_i
     | inr other ↦ register_in-set_other new i t r x other ∙ before.done t r (omega arith)
   ];
-  rest = λ t r behind.
+  rest = λ t r after.
       let other : t ≢ i = omega arith in
       register_in-set_other new i t r x other ∙ before.rest t r (omega arith);
 }

@@ -47,8 +47,8 @@ counts_words s Is total sums = record {
   adds_up = sums.adds_up;
 }
 
-module _ (phase : Phase) (maps : Maps) (s t : State) (f : ℕ → ℕ) (moves : List Relocation) (front : ℕ)
-    (carries : Carries phase s t f moves front) where
+module _ (phase : Phase) (maps : Maps) (s t : State) (f : ℕ → ℕ) (moves : List Relocation) (held_count : ℕ)
+    (carries : Carries phase s t f moves held_count) where
   -- those of all objects, where they are after the move
   pub live_words : Formed maps s → CountsWords t (IsNamed (maps_after maps moves)) (words_in moves)
   live_words formed = counts_words t (IsNamed (maps_after maps moves)) (words_in moves) (
@@ -56,33 +56,33 @@ module _ (phase : Phase) (maps : Maps) (s t : State) (f : ℕ → ℕ) (moves : 
       (λ i j a b first second before same. let one =
       (same_place i j carries.found first second same).0 in omega (arith, one, before))
       (λ k m at.
-      let o = object_there phase maps s t f moves front carries k m at in
+      let o = object_there phase maps s t f moves held_count carries k m at in
       (costs_at t).is m.to o.0 o.1.starts
-      ∙ ap cost_of (shape_before phase maps s t f moves front carries k m m.to o.0 at refl o.1.starts))
+      ∙ ap cost_of (shape_before phase maps s t f moves held_count carries k m m.to o.0 at refl o.1.starts))
       (λ b named. let c = comes maps.address moves b named.0 named.1 in (c.index, c.move, c.is, c.to))
       (λ k m at.
       let n = reached_named maps s m.from formed (carries.found.whole k m at).reached in
-      (n.0, carried_name phase maps s t f moves front carries k m at ∙ n.1))
+      (n.0, carried_name phase maps s t f moves held_count carries k m at ∙ n.1))
       )
 
   -- those of the objects in registers, where they were before
-  pub held_words : CountsWords s (HeldAt s) (words_in (take front moves))
-  held_words = counts_words s (HeldAt s) (words_in (take front moves)) (
-      counts_moves (cost_at s) (HeldAt s) (λ (m : Relocation). m.from) (take front moves)
+  pub held_words : CountsWords s (HeldAt s) (words_in (take held_count moves))
+  held_words = counts_words s (HeldAt s) (words_in (take held_count moves)) (
+      counts_moves (cost_at s) (HeldAt s) (λ (m : Relocation). m.from) (take held_count moves)
       (λ i j a b first second before same.
-      let x = (slice_get-take moves front i a first).1 in
-      let y = (slice_get-take moves front j b second).1 in
+      let x = (slice_get-take moves held_count i a first).1 in
+      let y = (slice_get-take moves held_count j b second).1 in
       let one = (same_source i j carries.found x y same).0 in
       omega (arith, one, before))
       (λ k m at.
-      let is = carries.found.whole k m (slice_get-take moves front k m at).1 in
+      let is = carries.found.whole k m (slice_get-take moves held_count k m at).1 in
       (costs_at s).is m.from is.header is.starts ∙ source_cost s m is)
       (λ a held.
       let full : s.register held.0.thread held.0.register ≢ 0 = λ nought. held.1 (sym held.0.holds ∙ nought) in
       let m = carries.held.all held.0.thread held.0.register full in
-      (m.0, m.1, slice_get_in_front moves front m.0 m.1 m.3 m.2, m.4 ∙ held.0.holds))
+      (m.0, m.1, slice_get_in_front moves held_count m.0 m.1 m.3 m.2, m.4 ∙ held.0.holds))
       (λ k m at.
-      let old = slice_get-take moves front k m at in
+      let old = slice_get-take moves held_count k m at in
       let held = carries.held.each k m old.1 old.0 in
       let first = (source_object s m carries.whole (carries.found.whole k m old.1)).first in
       (record { thread = held.0; register = held.1; holds = held.2 }, λ nought. omega (arith, nought, first)))

@@ -31,11 +31,11 @@ unfolding looked_up
 nothing_looked_up count address =
     ap (λ (entry : ℕ). target_of entry address) (nothing_at count (address / 2)) ∙ target_small 0 address (omega arith)
 
--- no address behind the table is sent
-pub nothing_behind : (entries : List ℕ) (address : ℕ) → length entries ≤ address / 2 → looked_up entries address ≡ 0
+-- no address after the table is sent
+pub nothing_after : (entries : List ℕ) (address : ℕ) → length entries ≤ address / 2 → looked_up entries address ≡ 0
 unfolding looked_up
-nothing_behind entries address behind =
-    ap (λ (entry : ℕ). target_of entry address) (get_or_past entries (address / 2) 0 behind)
+nothing_after entries address after =
+    ap (λ (entry : ℕ). target_of entry address) (get_or_past entries (address / 2) 0 after)
     ∙ target_small 0 address (omega arith)
 
 -- an entry without a new address sends neither of its two

@@ -50,9 +50,9 @@ place-other (x ∷ ms) m a other = elim (cases_eq x.from a) [
       ∙ (place-other ms m a other ∙ sym (cond-false (x.from == a) x.to (place_of ms a) (ne_eqb x.from a apart)))
 ]
 
--- words put behind the first ones, so many of them, in the place of others
-abbrev pub put_behind : ℕ → List ℕ → List ℕ → List ℕ
-put_behind next words items = take next items ++ words ++ drop (next + length words) items
+-- words put after the first ones, so many of them, in the place of others
+abbrev pub put_after : ℕ → List ℕ → List ℕ → List ℕ
+put_after next words items = take next items ++ words ++ drop (next + length words) items
 
 front_size : (next : ℕ) (words items : List ℕ) → next ≤ length items
     → length (take next items ++ words) ≡ next + length words
@@ -60,14 +60,14 @@ front_size next words items within =
     length-append (take next items) words ∙ ap (λ (n : ℕ). n + length words) (length-take-le next items within)
 
 put_size : (next : ℕ) (words items : List ℕ) → next + length words ≤ length items
-    → length (put_behind next words items) ≡ length items
+    → length (put_after next words items) ≡ length items
 put_size next words items fits =
     length-append (take next items ++ words) (drop (next + length words) items)
     ∙ omega (arith, fits, front_size next words items (omega (arith, fits)), length-drop (next + length words) items)
 
 -- the first ones are as they were
 put_before : (next : ℕ) (words items : List ℕ) (k : ℕ) → next ≤ length items → k ≤ next
-    → word_numbered (put_behind next words items) k ≡ word_numbered items k
+    → word_numbered (put_after next words items) k ≡ word_numbered items k
 put_before next words items zero within below = refl
 put_before next words items (suc k) within below =
     get_or_append_left (take next items ++ words) (drop (next + length words) items) 0 k
@@ -75,11 +75,11 @@ put_before next words items (suc k) within below =
     ∙ (get_or_append_left (take next items) words 0 k (omega (arith, below, length-take-le next items within))
     ∙ get_or-take next items k 0 (omega (arith, below)))
 
--- and those behind them are these
+-- and those after them are these
 put_there : (next : ℕ) (words items : List ℕ) (i : ℕ) → next ≤ length items → i < length words
-    → word_numbered (put_behind next words items) (next + 1 + i) ≡ slice_index words i
+    → word_numbered (put_after next words items) (next + 1 + i) ≡ slice_index words i
 put_there next words items i within below =
-    word_in_at (put_behind next words items) (length (take next items)) i (next + 1 + i)
+    word_in_at (put_after next words items) (length (take next items)) i (next + 1 + i)
     (omega (arith, length-take-le next items within))
     ∙ (get_or_append_left (take next items ++ words) (drop (next + length words) items) 0 (length (take next items) + i)
     (omega (arith, below, front_size next words items within, length-take-le next items within))
@@ -93,7 +93,7 @@ part_more {c} {held} old new {m} {i} {was} {is} more same part = record {
   home = λ second. same ∙ part.home second;
   slot = λ from to. subst (WordMoves c.phase (place_of new) (c.state.word (m.from + i))) (sym same)
       (word_more old new _ _ more (part.slot from to));
-  number = λ behind. same ∙ part.number behind;
+  number = λ after. same ∙ part.number after;
 }
 
 -- the number of the object goes with it
@@ -139,7 +139,7 @@ pub words_fit : {c : Collection} {space : SpaceWords} (to : ToSpace) {done : ℕ
     → to.next ≤ space.used
 words_fit {c} to it =
     let words = found_words c.state (place_of to.moves) to.moves (to.next + 1) it.whole it.holds in
-    omega (arith, words, it.holds.behind, it.free)
+    omega (arith, words, it.holds.after, it.free)
 
 -- the move of an object that is found next
 abbrev pub next_move : ToSpace → ℕ → Shape → Relocation
@@ -196,7 +196,7 @@ module _ {c : Collection} {space : SpaceWords} {to : ToSpace} {done address : �
       pub fits_then : to.next + cost_of shape ≤ space.used
       fits_then =
           let words = found_words c.state _ _ (to.next + 1 + cost_of shape) at.evacuates.whole holds_then in
-          omega (arith, words, holds_then.behind, at.evacuates.free)
+          omega (arith, words, holds_then.after, at.evacuates.free)
 
       pub place_free : HasPlace to.names (to.next + 1)
       place_free =
@@ -205,7 +205,7 @@ module _ {c : Collection} {space : SpaceWords} {to : ToSpace} {done address : �
 
       module _ {space' : SpaceWords} (to' : ToSpace) {words : List ℕ}
           (are : AreWords space address (cost_of shape) words)
-          (words_then : to'.words.items ≡ put_behind to.next words to.words.items)
+          (words_then : to'.words.items ≡ put_after to.next words to.words.items)
           (next : to'.next ≡ to.next + length words)
           (moves_then : to'.moves ≡ to.moves ++ next_move to address shape ∷ [])
           (names : CarriesName to.names to'.names address (to.next + 1))

@@ -61,10 +61,10 @@ relocates_push {s} {f} g {moves} m {header} forwarding reached starts shape to u
     | inl old ↦ forwarding.places k x old.1
         ∙ ap (λ (ms : List Relocation). 1 + words_in ms) (sym (take-append-le k moves (m ∷ []) (omega (arith, old.0))))
     | inr new ↦ subst (λ (y : Relocation). y.to ≡ 1 + words_in (take k (moves ++ m ∷ []))) new.1
-        (to ∙ (forwarding.behind ∙ ap (λ (ms : List Relocation). 1 + words_in ms)
+        (to ∙ (forwarding.after ∙ ap (λ (ms : List Relocation). 1 + words_in ms)
         (sym (ap (λ (n : ℕ). take n (moves ++ m ∷ [])) new.0 ∙ take-append_seam moves (m ∷ [])))))
   ];
-  behind = omega (arith, words_in-push moves m, forwarding.behind);
+  after = omega (arith, words_in-push moves m, forwarding.after);
 }
 
 -- an object that is found lies within the words in use
@@ -140,7 +140,7 @@ pub next_fits : (space : SpaceWords) (s : State) (forwarding : Forwarding) → T
     → forwarding.next ≤ space.used + 1
 next_fits space s forwarding tracks = let words =
     found_words s (goes forwarding) forwarding.moves.items forwarding.next tracks.whole tracks.holds in
-    omega (arith, words, tracks.free, tracks.holds.behind)
+    omega (arith, words, tracks.free, tracks.holds.after)
 
 pub next_after_fits : (space : SpaceWords) (s : State) (forwarding : Forwarding) (address : ℕ) (shape : Shape)
     → TracksAt space s forwarding address → goes forwarding address ≡ 0
@@ -149,7 +149,7 @@ pub next_after_fits : (space : SpaceWords) (s : State) (forwarding : Forwarding)
 next_after_fits space s forwarding address shape at unknown told =
     let after = relocates_found space s forwarding address shape at unknown told in
     let words = found_words s _ _ (forwarding.next + cost_of shape) at.tracks.whole after in
-    omega (arith, words, at.tracks.free, after.behind)
+    omega (arith, words, at.tracks.free, after.after)
 
 -- fewer than 2^30 words are in use
 pub used_small : (space : SpaceWords) (s : State) (forwarding : Forwarding) → Tracks space s forwarding
@@ -180,10 +180,10 @@ tracks_found space s forwarding new address shape at unknown told forward moves 
       ∙ (length-set forwarding.entries.items (address / 2) (entry_of address forwarding.next) ∙ at.tracks.table);
 }
 
--- a place behind the first word is not 0
+-- a place after the first word is not 0
 pub next_there : (space : SpaceWords) (s : State) (forwarding : Forwarding) → Tracks space s forwarding
     → forwarding.next ≢ 0
-next_there space s forwarding tracks = let behind = tracks.holds.behind in omega (arith, behind)
+next_there space s forwarding tracks = let later = tracks.holds.after in omega (arith, later)
 
 -- the object has the next place then
 pub found_here : (space : SpaceWords) (s : State) (forwarding : Forwarding) {entries : List ℕ} (address : ℕ)

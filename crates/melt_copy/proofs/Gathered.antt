@@ -25,13 +25,13 @@ use Rattle.melt_copy.proofs.Held.{past_threads}
 use Rattle.melt_copy.proofs.Walking.{HasMoved, not_moved, moved_more, moved_none, live_place}
 
 -- an address has its new one, and one of an object was found
-pub record Goes (moves : List Relocation) (from to : ℕ) : Type 0 where
+pub record HasNewAddress (moves : List Relocation) (from to : ℕ) : Type 0 where
   pub is : to ≡ place_of moves from
   pub found : from ≢ 0 → place_of moves from ≢ 0
 
 -- it has the same when more is found
 goes_more : {old new : List Relocation} {from to : ℕ} → FindsMore old new → place_of old 0 ≡ 0 → place_of new 0 ≡ 0
-    → Goes old from to → Goes new from to
+    → HasNewAddress old from to → HasNewAddress new from to
 goes_more {old} {new} {from} more none still_none goes = record {
   is = elim (cases_eq from 0) [
     | inl nothing ↦ goes.is ∙ (ap (place_of old) nothing ∙ (none ∙ (sym still_none ∙ sym (ap (place_of new) nothing))))
@@ -53,7 +53,7 @@ more_registers old to new register address r is before only k m at = elim (only 
 -- What holds when the first registers of a thread, so many of them, hold the new addresses of their objects.
 pub record ThreadSoFar (space now : SpaceWords) (old to : ToSpace) (register : ℕ → ℕ) (items : List ℕ)
     (count : ℕ) : Type 0 where
-  pub done : (r : ℕ) → r < count → Goes to.moves (register r) (slice_index items r)
+  pub done : (r : ℕ) → r < count → HasNewAddress to.moves (register r) (slice_index items r)
   pub rest : (r : ℕ) → count ≤ r → slice_index items r ≡ register r
   pub finds : FindsRegisters old.moves to.moves register
   pub more : FindsMore old.moves to.moves
@@ -82,11 +82,11 @@ module _ {space now : SpaceWords} {old to : ToSpace} {register : ℕ → ℕ} {i
       let none = nothing_at_0 (before.evacuates may.0 may.1) in
       let nothing : register n ≡ 0 = sym same_register ∙ empty in
       record {
-        done = below_more (λ (r : ℕ). Goes to.moves (register r) (slice_index items r)) n before.done (record {
+        done = below_more (λ (r : ℕ). HasNewAddress to.moves (register r) (slice_index items r)) n before.done (record {
           is = empty ∙ (sym none ∙ sym (ap (place_of to.moves) nothing));
           found = λ full. absurd (full nothing);
         });
-        rest = λ r behind. before.rest r (omega (arith, behind));
+        rest = λ r later. before.rest r (omega (arith, later));
         finds = before.finds;
         more = before.more;
         evacuates = before.evacuates;
@@ -108,16 +108,17 @@ module _ {space now : SpaceWords} {old to : ToSpace} {register : ℕ → ℕ} {i
       let here : place_of new.moves (register n) ≡ there = ap (place_of new.moves) (sym same_register) ∙ place in
       record {
         done = λ r below. elim (cases_eq r n) [
-          | inl same ↦ subst (λ (i : ℕ). Goes new.moves (register i) (slice_index (slice_set items n there) i)) (sym same)
+          | inl same ↦ subst (λ (i : ℕ). HasNewAddress new.moves (register i) (slice_index (slice_set items n there) i))
+              (sym same)
               (record {
                 is = get_or-set_same items n there 0 within ∙ sym here;
                 found = λ _ (nought : place_of new.moves (register n) ≡ 0). some (sym here ∙ nought);
               })
-          | inr other ↦ subst (Goes new.moves (register r)) (sym (get_or-set_other items n r there 0 other))
+          | inr other ↦ subst (HasNewAddress new.moves (register r)) (sym (get_or-set_other items n r there 0 other))
               (goes_more more none still_none (before.done r (omega (arith, below, other))))
         ];
-        rest = λ r behind.
-            get_or-set_other items n r there 0 (omega (arith, behind)) ∙ before.rest r (omega (arith, behind));
+        rest = λ r later.
+            get_or-set_other items n r there 0 (omega (arith, later)) ∙ before.rest r (omega (arith, later));
         finds = more_registers old.moves to.moves new.moves register (slice_index items n) n (sym same_register)
             before.finds only;
         more = more-then old.moves to.moves new.moves before.more more;
@@ -133,18 +134,18 @@ all_registers {to} {register} {items} {n} before past may =
     record {
       each = λ r. elim (cases_lt r n) [
         | inl below ↦ (before.done r below).is
-        | inr behind ↦ before.rest r behind ∙ (past r behind ∙ (sym none ∙ sym (ap (place_of to.moves) (past r behind))))
+        | inr later ↦ before.rest r later ∙ (past r later ∙ (sym none ∙ sym (ap (place_of to.moves) (past r later))))
       ];
       found = λ r full. elim (cases_lt r n) [
         | inl below ↦ (before.done r below).found full
-        | inr behind ↦ absurd (full (past r behind))
+        | inr later ↦ absurd (full (past r later))
       ];
     }
 
 -- What holds when the registers of the first threads, so many of them, hold the new addresses of their objects.
 pub record ThreadsSoFar (space now : SpaceWords) (old to : ToSpace) (held new : List Registers)
     (count : ℕ) : Type 0 where
-  pub done : (t r : ℕ) → t < count → Goes to.moves (register_in held t r) (register_in new t r)
+  pub done : (t r : ℕ) → t < count → HasNewAddress to.moves (register_in held t r) (register_in new t r)
   pub rest : (t r : ℕ) → count ≤ t → register_in new t r ≡ register_in held t r
   pub finds : FindsThreads old.moves to.moves held
   pub more : FindsMore old.moves to.moves
@@ -180,7 +181,8 @@ module _ {space now : SpaceWords} {old to : ToSpace} {held items : List Register
       record {
         done = λ t r below. elim (cases_eq t n) [
           | inl same ↦
-              subst (λ (u : ℕ). Goes new.moves (register_in held u r) (register_in (slice_set items n x) u r)) (sym same)
+              subst (λ (u : ℕ). HasNewAddress new.moves (register_in held u r) (register_in (slice_set items n x) u r))
+              (sym same)
               (record {
                 is = register_in-set_same items n r x within
                     ∙ (moves.each r ∙ ap (place_of new.moves) (same_thread r));
@@ -189,11 +191,11 @@ module _ {space now : SpaceWords} {old to : ToSpace} {held items : List Register
                     (moves.found r);
               })
           | inr other ↦
-              subst (Goes new.moves (register_in held t r)) (sym (register_in-set_other items n t r x other))
+              subst (HasNewAddress new.moves (register_in held t r)) (sym (register_in-set_other items n t r x other))
               (goes_more more none still_none (before.done t r (omega (arith, below, other))))
         ];
-        rest = λ t r behind.
-            register_in-set_other items n t r x (omega (arith, behind)) ∙ before.rest t r (omega (arith, behind));
+        rest = λ t r later.
+            register_in-set_other items n t r x (omega (arith, later)) ∙ before.rest t r (omega (arith, later));
         finds = λ k m at. elim (finds k m at) [
           | inl there ↦ before.finds k m there
           | inr found ↦ inr (n, found.0, sym (same_thread found.0) ∙ found.1)
@@ -211,13 +213,13 @@ all_moved {to} {held} {n} before whole may =
     record {
       each = λ t r. elim (cases_lt t n) [
         | inl below ↦ (before.done t r below).is
-        | inr behind ↦
-            let nothing = past_threads held t r (omega (arith, whole, behind)) in
-            before.rest t r behind ∙ (nothing ∙ (sym none ∙ sym (ap (place_of to.moves) nothing)))
+        | inr later ↦
+            let nothing = past_threads held t r (omega (arith, whole, later)) in
+            before.rest t r later ∙ (nothing ∙ (sym none ∙ sym (ap (place_of to.moves) nothing)))
       ];
       found = λ t r full. elim (cases_lt t n) [
         | inl below ↦ (before.done t r below).found full
-        | inr behind ↦ absurd (full (past_threads held t r (omega (arith, whole, behind))))
+        | inr later ↦ absurd (full (past_threads held t r (omega (arith, whole, later))))
       ];
     }
 
@@ -261,8 +263,8 @@ module _ {phase : Phase} {space now : SpaceWords} {old to : ToSpace} {words item
           (sym (get_or-set_other items n g is 0 other))
           (word_more to.moves new.moves _ _ more (before.done g (omega (arith, lower, other))))
     ];
-    rest = λ g behind.
-        get_or-set_other items n g is 0 (omega (arith, behind)) ∙ before.rest g (omega (arith, behind));
+    rest = λ g later.
+        get_or-set_other items n g is 0 (omega (arith, later)) ∙ before.rest g (omega (arith, later));
     more = more-then old.moves to.moves new.moves before.more more;
     evacuates = λ c globals. evacuates c 0 (global_at below c globals);
   }

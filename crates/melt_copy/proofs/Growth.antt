@@ -1,4 +1,4 @@
--- What a forwarding found stays found when it grows, and words that are there stay when more are put behind them.
+-- What a forwarding found stays found when it grows, and words that are there stay when more are put after them.
 use Rattle.std.proofs.Common.{◌≡◌, ℕ, ◌+◌, ◌<◌, ◌≤◌, zero, suc, List, [], ◌∷◌, ◌++◌, length, length-append}
 use Rattle.std.proofs.Common.{refl, sym, ap, ◌∙◌, arith, append_assoc}
 use Rattle.std.specs.Prelude.{slice_get, slice_index, Some}
@@ -53,7 +53,7 @@ module _ (space : SpaceWords) (old now : Forwarding) (words : List ℕ) (i : ℕ
       → Tracks space s new) → (s : State) → TracksIn space s old words → Tracks space s new
   word_tracked new finds s in_ = finds s (words_for space s old now words i in_ (tracks s in_) below)
 
--- one word more behind those that are there
+-- one word more after those that are there
 pub Extends-push : (a b c : List ℕ) (n w : ℕ) → Extends a b n → c ≡ b ++ w ∷ [] → Extends a c (n + 1)
 Extends-push a b c n w extends is = record {
   size = ap length is ∙ (length-append b (w ∷ []) ∙ omega (arith, extends.size));

@@ -7,7 +7,7 @@ use Rattle.melt_scion.specs.declared.heap.Heap.{Heap}
 use Rattle.melt_copy.specs.declared.forwarding.Forwarding.{Forwarding}
 use Rattle.melt_copy.specs.declared.live.LiveSet.{LiveSet}
 use Rattle.melt_copy.specs.Tracking.{goes, Tracks, TracksIn, TracksScions, FindsScions, Grows}
-use Rattle.melt_copy.specs.Reaching.{FindsFront, FindsWords, FindsAll, IsLiveSet, ReachesLive}
+use Rattle.melt_copy.specs.Reaching.{FindsHeldAlone, FindsWords, FindsAll, IsLiveSet, ReachesLive}
 use Rattle.melt_copy.proofs.Held.{still_known}
 use Rattle.melt_copy.proofs.Sources.{IsClosed, reached_found}
 use Rattle.melt_copy.proofs.Roots.{FindsRoots, since_globals, front_held, front_words, scions_found}
@@ -17,7 +17,7 @@ module _ (heap : Heap) (held : List Registers) (disk : OnDisk) (live : LiveSet) 
     (roots : FindsRoots heap (state_of heap held disk) live second third last)
     (globals : FindsWords (goes second) heap.globals) (tracks : Tracks heap.space (state_of heap held disk) last)
     (slots : FindsAll (state_of heap held disk) (goes last) last.moves.items) where
-  nothing_left : IsClosed (state_of heap held disk) (goes last) last.moves.items live.front
+  nothing_left : IsClosed (state_of heap held disk) (goes last) last.moves.items live.held_count
   nothing_left = record {
     held = front_held heap held disk live second third last roots;
     globals = λ g address below refers.
@@ -31,14 +31,14 @@ module _ (heap : Heap) (held : List Registers) (disk : OnDisk) (live : LiveSet) 
   is_live_set = record {
     whole = tracks.whole;
     found = tracks.holds;
-    all = reached_found (state_of heap held disk) (goes last) last.moves.items last.next live.front tracks.holds
+    all = reached_found (state_of heap held disk) (goes last) last.moves.items last.next live.held_count tracks.holds
         nothing_left;
     held = front_held heap held disk live second third last roots;
     held_words = front_words heap held disk live second third last roots;
   }
 
 pub reaches : {old now : Heap} (held : List Registers) (same : old ≡ now) (live : LiveSet)
-    (front : FindsFront now held live) {words : List ℕ} (words_are : words ≡ old.globals) {second : Forwarding}
+    (held_alone : FindsHeldAlone now held live) {words : List ℕ} (words_are : words ≡ old.globals) {second : Forwarding}
     (finds_globals : (s : State) → TracksIn old.space s live.forwarding words → Tracks old.space s second)
     {third last : Forwarding} → Grows live.forwarding second → FindsWords (goes second) words → Grows second third
     → FindsScions third old.scions
@@ -46,12 +46,13 @@ pub reaches : {old now : Heap} (held : List Registers) (same : old ≡ now) (liv
     → ((s : State) → Tracks old.space s third → Tracks old.space s last)
     → ((s : State) → Tracks old.space s third → FindsAll s (goes last) last.moves.items)
     → ReachesLive now held (record live { forwarding = last })
-reaches {old} {now} held same live front {words} words_are {second} finds_globals {third} {last} grows globals
+reaches {old} {now} held same live held_alone {words} words_are {second} finds_globals {third} {last} grows globals
     grows_scions scions finds_scions grows_last finds_rest slots =
     subst (λ (heap : Heap). ReachesLive heap held (record live { forwarding = last })) same (λ maps disk formed.
     let moved = finds_scions (state_of old held disk)
-    (before_scions old now held same live front words words_are second finds_globals maps disk formed) in
+    (before_scions old now held same live held_alone words words_are second finds_globals maps disk formed) in
     is_live_set old held disk live second third last
-    (roots_found old now held same live front second third last grows grows_scions scions grows_last maps disk formed)
+    (roots_found old now held same live held_alone second third last grows grows_scions scions grows_last maps disk
+    formed)
     (subst (FindsWords (goes second)) words_are globals) (finds_rest (state_of old held disk) moved)
     (slots (state_of old held disk) moved))

@@ -58,8 +58,8 @@ scion_before : (f : ℕ → ℕ) (o : Option Scion) (x : Scion) → option_map (
 scion_before f None x is = absurd (cc)
 scion_before f (Some y) x is = (y, refl, same_Some (moved_scion f y) x is)
 
-module _ (phase : Phase) (maps : Maps) (s t : State) (f : ℕ → ℕ) (moves : List Relocation) (front : ℕ)
-    (whole : IsWhole s) (copy : IsCopy phase s t f moves front) (formed : Formed maps s)
+module _ (phase : Phase) (maps : Maps) (s t : State) (f : ℕ → ℕ) (moves : List Relocation) (held_count : ℕ)
+    (whole : IsWhole s) (copy : IsCopy phase s t f moves held_count) (formed : Formed maps s)
     (copying : IsCopying phase) where
   -- no forwarding word sends a home
   not_sent : {home address : ℕ} → Forwards s home address → ⊥
@@ -68,7 +68,7 @@ module _ (phase : Phase) (maps : Maps) (s t : State) (f : ℕ → ℕ) (moves : 
       omega (arith, word, copy.settled is.place, is.sends.home_in_range.not_null)
 
   -- what was found was carried
-  pub copy_carries : Carries phase s t f moves front
+  pub copy_carries : Carries phase s t f moves held_count
   copy_carries = record {
     whole = whole;
     found = copy.found;
@@ -84,9 +84,9 @@ module _ (phase : Phase) (maps : Maps) (s t : State) (f : ℕ → ℕ) (moves : 
         let g = goes s f moves t.free a copy.found some in
         (subst (Reached s) g.from (copy.found.whole g.index g.move g.is).reached, none_leaves phase s a copying);
     go = λ a reached.
-        inl (reached_found s f moves t.free front copy.found (copy_closed s t f moves front copy) a reached);
-    once = found_once phase maps s t f moves front copy_carries;
-    nothing = zero_stays phase maps s t f moves front copy_carries;
+        inl (reached_found s f moves t.free held_count copy.found (copy_closed s t f moves held_count copy) a reached);
+    once = found_once phase maps s t f moves held_count copy_carries;
+    nothing = zero_stays phase maps s t f moves held_count copy_carries;
   }
 
   -- an object that is reached has no home, or one with a live scion: none is forwarded
@@ -109,18 +109,18 @@ module _ (phase : Phase) (maps : Maps) (s t : State) (f : ℕ → ℕ) (moves : 
   arrives : (a : ℕ) (header : Header) → f a ≢ 0 → HeaderAt s a header
       → Arrives phase s t f (old_home s) (old_scion s) a header
   arrives a header some starts =
-      let x = found_at phase maps s t f moves front copy_carries a header some starts in
+      let x = found_at phase maps s t f moves held_count copy_carries a header some starts in
       let object = copy.objects x.index x.move x.is in
       let home : t.word (f a + 1) ≡ s.word (a + 1) =
       ap (λ (b : ℕ). t.word (b + 1)) (sym x.to) ∙ (object.home ∙ ap (λ (b : ℕ). s.word (b + 1)) x.from) in
       let refs : header.shape.refs ≡ x.move.shape.refs = ap (λ (z : Shape). z.refs) x.shape in
       let nums : header.shape.nums ≡ x.move.shape.nums = ap (λ (z : Shape). z.nums) x.shape in
       record {
-        later = header_after phase (nat_lt x.index front) header;
+        later = header_after phase (nat_lt x.index held_count) header;
         starts = x.there;
         shape = refl;
-        marked = marked phase maps s t f moves front copy_carries formed a header x starts;
-        below = place_within phase maps s t f moves front copy_carries a header some starts;
+        marked = marked phase maps s t f moves held_count copy_carries formed a header x starts;
+        below = place_within phase maps s t f moves held_count copy_carries a header some starts;
         no_home = λ none. elim (home_of a (chooses.stay a some).0) [
           | inl nought ↦ home ∙ nought
           | inr has ↦
@@ -187,9 +187,9 @@ module _ (phase : Phase) (maps : Maps) (s t : State) (f : ℕ → ℕ) (moves : 
     homes = homes_stay maps s formed phase t f (λ a. none_leaves phase s a copying) copy.homes.end;
     size = copy.sizes.size;
     globals = copy.sizes.globals;
-    free = free_within phase maps s t f moves front copy_carries;
+    free = free_within phase maps s t f moves held_count copy_carries;
     arrives = arrives;
-    order = in_order phase maps s t f moves front copy_carries;
+    order = in_order phase maps s t f moves held_count copy_carries;
     global = λ g below. word_becomes phase f (old_home s) (s.global g) (t.global g) (copy.global g below);
     register = copy.register;
     scions = takes_scion;
@@ -199,7 +199,7 @@ module _ (phase : Phase) (maps : Maps) (s t : State) (f : ℕ → ℕ) (moves : 
   }
 
   pub copy_names : MovesNames maps (maps_after maps moves) f
-  copy_names = carried_names phase maps s t f moves front copy_carries
+  copy_names = carried_names phase maps s t f moves held_count copy_carries
 
   -- a copy is a collection
   pub copy_collects : Collected phase maps (maps_after maps moves) s t f (old_home s) (old_scion s)
@@ -216,5 +216,5 @@ module _ (phase : Phase) (maps : Maps) (s t : State) (f : ℕ → ℕ) (moves : 
     homes = λ h tells. names_stay s (old_home s) (has_old_homes maps s formed) maps (maps_after maps moves) (λ k. refl);
     disk = λ h tells. disk_stays s (old_home s) (has_old_homes maps s formed) phase t f (old_scion s)
         (λ a. none_leaves phase s a copying) copy.homes copy.image;
-    no_gaps = word_taken phase maps s t f moves front copy_carries formed;
+    no_gaps = word_taken phase maps s t f moves held_count copy_carries formed;
   }

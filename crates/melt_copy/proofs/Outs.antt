@@ -43,7 +43,7 @@ was_at old new k m more below at = sym (slice_get-append_left old more.rest k be
 -- an object of whose words all were moved
 object_moved : (c : Collection) (space : SpaceWords) (to : ToSpace) (k : ℕ) (m : Relocation)
     → Evacuates c space to to.next → slice_get to.moves k ≡ Some m
-    → ObjectMoves c.phase (nat_lt k c.front) (place_of to.moves) c.state (word_numbered to.words.items) m
+    → ObjectMoves c.phase (nat_lt k c.held_count) (place_of to.moves) c.state (word_numbered to.words.items) m
 object_moved c space to k m evacuates at =
     let word = word_numbered to.words.items in
     let f = place_of to.moves in
@@ -86,10 +86,10 @@ copied_fits : (c : Collection) (space : SpaceWords) (to : ToSpace) (done : ℕ) 
 copied_fits c space to done evacuates =
     let words = found_words c.state (place_of to.moves) to.moves (to.next + 1) evacuates.whole
     evacuates.holds in
-    let behind = evacuates.holds.behind in
+    let later = evacuates.holds.after in
     let inside = evacuates.whole.inside in
     let size = evacuates.size in
-    omega (arith, words, behind, inside, size)
+    omega (arith, words, later, inside, size)
 
 pair_more : (old new : List Relocation) → FindsMore old new → (o : Option (ℕ × ℕ))
     → ((pair : ℕ × ℕ) → o ≡ Some pair → place_of old pair.1 ≢ 0)
@@ -146,14 +146,15 @@ pub record AllMoved (phase : Phase) (heap : Heap) (held after : List Registers) 
       → Evacuates c space to to.next
 
 module _ (phase : Phase) (heap : Heap) (held after : List Registers) (maps : Maps) (disk : OnDisk)
-    (formed : Formed maps (state_of heap held disk)) (front : ℕ) where
+    (formed : Formed maps (state_of heap held disk)) (held_count : ℕ) where
   abbrev its : Collection
-  its = collection_of phase heap held disk front
+  its = collection_of phase heap held disk held_count
 
   pub held_evacuates : {space : SpaceWords} {to : ToSpace} → HeldFound heap held after space to
       → Evacuates its space to 0
   held_evacuates found =
-      found.evacuates its (evacuates_start maps disk heap held phase front found.start_space found.start found.begins
+      found.evacuates its (evacuates_start maps disk heap held phase held_count found.start_space found.start
+      found.begins
       formed)
 
   -- globals are words of references to objects that can be found
@@ -204,20 +205,20 @@ module _ {phase : Phase} {heap : Heap} {held after : List Registers} {held_words
       → EvacuatesQueue (collection_of phase heap held disk (length (held_copy roots).moves)) phase held_words space to 0
   before_scan maps disk formed =
       let same = roots.before.held_is in
-      let front = length (held_copy roots).moves in
-      let first = held_evacuates phase heap held after maps disk formed front roots.before.before in
+      let held_count = length (held_copy roots).moves in
+      let first = held_evacuates phase heap held after maps disk formed held_count roots.before.before in
       record {
-        evacuates = scions_evacuates phase heap held after maps disk formed front roots;
+        evacuates = scions_evacuates phase heap held after maps disk formed held_count roots;
         phase_is = refl;
         count = 0;
         count_within = omega arith;
         done_is = refl;
-        front_within = longer (held_copy roots).moves to.moves since_first;
+        held_within = longer (held_copy roots).moves to.moves since_first;
         held_is =
-            (let behind = first.holds.behind in
-            let words : held_words ≡ words_in (held_copy roots).moves = omega (arith, same, behind) in
-            words ∙ (sym (ap words_in (take_all front (held_copy roots).moves (omega arith)))
-            ∙ sym (front_stays (held_copy roots).moves to.moves front since_first (omega arith))));
+            (let later = first.holds.after in
+            let words : held_words ≡ words_in (held_copy roots).moves = omega (arith, same, later) in
+            words ∙ (sym (ap words_in (take_all held_count (held_copy roots).moves (omega arith)))
+            ∙ sym (front_stays (held_copy roots).moves to.moves held_count since_first (omega arith))));
       }
 
 module _ {phase : Phase} {heap : Heap} {held after : List Registers} {held_words : ℕ} {globals : List ℕ}
@@ -229,8 +230,8 @@ module _ {phase : Phase} {heap : Heap} {held after : List Registers} {held_words
   abbrev first : ToSpace
   first = held_copy roots
 
-  abbrev front : ℕ
-  front = length first.moves
+  abbrev held_count : ℕ
+  held_count = length first.moves
 
   -- those that were found since registers and since globals were looked at
   first_more : FindsMore first.moves to.moves
@@ -240,17 +241,18 @@ module _ {phase : Phase} {heap : Heap} {held after : List Registers} {held_words
   second_more = more-then roots.second.moves all.third.moves to.moves roots.more all.more
 
   all_evacuates : (maps : Maps) (disk : OnDisk) → Formed maps (state_of heap held disk)
-      → Evacuates (collection_of phase heap held disk front) space to to.next
+      → Evacuates (collection_of phase heap held disk held_count) space to to.next
   all_evacuates maps disk formed =
-      all.evacuates (collection_of phase heap held disk front) (before_scan roots maps disk formed)
+      all.evacuates (collection_of phase heap held disk held_count) (before_scan roots maps disk formed)
 
   first_evacuates : (maps : Maps) (disk : OnDisk) → Formed maps (state_of heap held disk)
-      → Evacuates (collection_of phase heap held disk front) roots.before.first_space first 0
-  first_evacuates maps disk formed = held_evacuates phase heap held after maps disk formed front roots.before.before
+      → Evacuates (collection_of phase heap held disk held_count) roots.before.first_space first 0
+  first_evacuates maps disk formed = held_evacuates phase heap held after maps disk formed held_count
+      roots.before.before
 
   -- the first objects are those in registers
   are_held : (maps : Maps) (disk : OnDisk) → Formed maps (state_of heap held disk)
-      → AreHeld (state_of heap held disk) to.moves front
+      → AreHeld (state_of heap held disk) to.moves held_count
   are_held maps disk formed =
       let found = roots.before.before in
       record {
@@ -282,11 +284,11 @@ module _ {phase : Phase} {heap : Heap} {held after : List Registers} {held_words
   pub copies : CopiesHeap phase heap held
       (record { moves = to.moves; words = copies_of to; globals = globals; held = held_words })
   copies maps disk formed =
-      let c = collection_of phase heap held disk front in
+      let c = collection_of phase heap held disk held_count in
       let evacuates = all_evacuates maps disk formed in
       let words = ap length roots.before.words_are in
       record {
-        front = front;
+        held_count = held_count;
         whole = evacuates.whole;
         holds = subst (λ (n : ℕ). Relocates c.state (place_of to.moves) to.moves (n + 1))
             (sym (copies_counted c space to to.next evacuates)) evacuates.holds;
@@ -305,7 +307,7 @@ module _ {phase : Phase} {heap : Heap} {held after : List Registers} {held_words
         scions = scions_found;
         held_words =
             (before_scan roots maps disk formed).held_is
-            ∙ sym (front_stays all.third.moves to.moves front all.more
+            ∙ sym (front_stays all.third.moves to.moves held_count all.more
             (longer first.moves all.third.moves (since_first roots)));
       }
 
@@ -344,7 +346,7 @@ module _ {phase : Phase} {heap : Heap} {held after : List Registers} {held_words
 
   pub all_fits : IsFormed heap held → to.next ≤ length space.list
   all_fits formed =
-      copied_fits (collection_of phase heap held formed.disk front) space to to.next
+      copied_fits (collection_of phase heap held formed.disk held_count) space to to.next
       (all_evacuates formed.maps formed.disk formed.formed)
 
   -- and are among those of the vector
@@ -370,7 +372,7 @@ module _ {phase : Phase} {heap : Heap} {held after : List Registers} {held_words
   pub held_small : IsFormed heap held → held_words < 2 ^ 30
   held_small formed =
       let before = first_evacuates formed.maps formed.disk formed.formed in
-      let c = collection_of phase heap held formed.disk front in
+      let c = collection_of phase heap held formed.disk held_count in
       let fits = copied_fits c roots.before.first_space first 0 before in
       let size = before.size in
       let small = before.whole.small in
@@ -383,5 +385,5 @@ module _ {phase : Phase} {heap : Heap} {held after : List Registers} {held_words
       let evacuates = all_evacuates formed.maps formed.disk formed.formed in
       let few = few_found (state_of heap held formed.disk) (place_of to.moves) to.moves (to.next + 1)
       evacuates.holds total (counts_over heap held formed.disk total counts) in
-      let behind = evacuates.holds.behind in
-      omega (arith, few, behind)
+      let later = evacuates.holds.after in
+      omega (arith, few, later)

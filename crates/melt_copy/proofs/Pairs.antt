@@ -12,7 +12,7 @@ passed : (to k : ℕ) (o : Option ℕ) (pairs : List (ℕ × ℕ)) → to ≢ k 
 passed to k None pairs other = refl
 passed to k (Some n) pairs other = cond-false (eqb to k) (Some n) (named pairs k) (ne_eqb to k other)
 
--- the pair with this key, or none behind which none is either
+-- the pair with this key, or none after which none is either
 hit : (to k : ℕ) (o : Option ℕ) (pairs : List (ℕ × ℕ)) → to ≡ k → named pairs k ≡ None
     → named (with_number to o pairs) k ≡ o
 hit to k None pairs same none = none
@@ -26,8 +26,8 @@ unpaired pairs (m ∷ moves) k free =
     passed m.to k (named pairs m.from) (moved_pairs pairs moves) (free 0 m refl)
     ∙ unpaired pairs moves k (λ j x at. free (suc j) x at)
 
-apart_behind : (m : Relocation) (moves : List Relocation) → PlacesApart (m ∷ moves) → PlacesApart moves
-apart_behind m moves apart i j x y first second same =
+apart_after : (m : Relocation) (moves : List Relocation) → PlacesApart (m ∷ moves) → PlacesApart moves
+apart_after m moves apart i j x y first second same =
     let both = apart (suc i) (suc j) x y first second same in omega (arith, both)
 
 -- the pairs after the moves say what the names do
@@ -42,6 +42,6 @@ pairs_after pairs (m ∷ moves) k apart = elim (cases_eq m.to k) [
       ∙ sym (cond-true (eqb m.to k) (named pairs m.from) (name_after (named pairs) moves k) (eq-eqb m.to k same))
   | inr other ↦
       passed m.to k (named pairs m.from) (moved_pairs pairs moves) other
-      ∙ (pairs_after pairs moves k (apart_behind m moves apart)
+      ∙ (pairs_after pairs moves k (apart_after m moves apart)
       ∙ sym (cond-false (eqb m.to k) (named pairs m.from) (name_after (named pairs) moves k) (ne_eqb m.to k other)))
 ]

@@ -1,4 +1,4 @@
--- The places of objects that were moved, one behind the other.
+-- The places of objects that were moved, one after the other.
 use Rattle.std.proofs.Common.{◌≡◌, ◌≢◌, ℕ, zero, suc, ◌+◌, ◌-◌, ◌<◌, ◌≤◌, List, [], ◌∷◌, take, refl, sym, ◌∙◌, ap}
 use Rattle.std.proofs.Common.{arith, inl, inr}
 use Rattle.std.specs.Prelude.{slice_get, Some, map}
@@ -14,7 +14,7 @@ use Rattle.melt_copy.specs.Moving.{words_in, Relocates}
 pub words_in-cons : (m : Relocation) (moves : List Relocation) → words_in (m ∷ moves) ≡ cost_of m.shape + words_in moves
 words_in-cons m moves = sum_by-cons (λ (n : ℕ). n) (cost_of m.shape) (map (λ (x : Relocation). cost_of x.shape) moves)
 
--- an object behind the first ones
+-- an object after the first ones
 pub words_in-front : (moves : List Relocation) (k : ℕ) (m : Relocation) → slice_get moves k ≡ Some m
     → words_in (take k moves) + cost_of m.shape ≤ words_in moves
 words_in-front [] k m at = absurd (cc)
@@ -64,11 +64,11 @@ takes_word (x ∷ moves) at below =
           }
     ]
 
--- a later object lies behind an earlier one
-pub place_behind : {s : State} {f : ℕ → ℕ} {moves : List Relocation} {free : ℕ} (i j : ℕ) {a b : Relocation}
+-- a later object lies after an earlier one
+pub place_after : {s : State} {f : ℕ → ℕ} {moves : List Relocation} {free : ℕ} (i j : ℕ) {a b : Relocation}
     → Relocates s f moves free → slice_get moves i ≡ Some a → slice_get moves j ≡ Some b → i < j
     → a.to + cost_of a.shape ≤ b.to
-place_behind {moves} i j {a} {b} forwarding first second before =
+place_after {moves} i j {a} {b} forwarding first second before =
     omega (arith, forwarding.places i a first, forwarding.places j b second, words_in-before moves i j a first before)
 
 -- an object lies from word 1 on and below the end
@@ -76,7 +76,7 @@ pub place_below : (s : State) (f : ℕ → ℕ) (moves : List Relocation) (free 
     → Relocates s f moves free → slice_get moves k ≡ Some m → (1 ≤ m.to) × (m.to + cost_of m.shape ≤ free)
 place_below s f moves free k m forwarding at = (
   omega (arith, forwarding.places k m at),
-  omega (arith, forwarding.places k m at, forwarding.behind, words_in-front moves k m at),
+  omega (arith, forwarding.places k m at, forwarding.after, words_in-front moves k m at),
 )
 
 -- two objects at one place are one
@@ -87,8 +87,8 @@ same_place {moves} i j {a} {b} forwarding first second same =
     elim (cases_order i j) [
       | inl is ↦ (is, same_Some a b (sym first ∙ (ap (slice_get moves) is ∙ second)))
       | inr other ↦ absurd (elim other [
-        | inl before ↦ omega (arith, place_behind i j forwarding first second before)
-        | inr behind ↦ omega (arith, place_behind j i forwarding second first behind)
+        | inl before ↦ omega (arith, place_after i j forwarding first second before)
+        | inr after ↦ omega (arith, place_after j i forwarding second first after)
       ])
     ]
 

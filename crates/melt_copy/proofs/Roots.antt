@@ -19,7 +19,7 @@ use Rattle.melt_copy.specs.declared.live.LiveSet.{LiveSet}
 use Rattle.melt_copy.specs.Moving.{IsWhole, Relocates, AreHeld, words_in}
 use Rattle.melt_copy.specs.Tracking.{goes, Tracks, TracksIn, TracksThreads, TracksScions, FindsThreads, FindsScions}
 use Rattle.melt_copy.specs.Tracking.{Grows, looked_up}
-use Rattle.melt_copy.specs.Reaching.{IsFront, FindsFront}
+use Rattle.melt_copy.specs.Reaching.{IsHeldAlone, FindsHeldAlone}
 use Rattle.melt_copy.proofs.Entries.{nothing_looked_up}
 use Rattle.melt_copy.proofs.Whole.{formed_whole}
 use Rattle.melt_copy.proofs.Growth.{Grows-more, stays_there}
@@ -45,7 +45,7 @@ no_moves s forwarding used forward moves next = record {
   only = λ a known.
       absurd (known (ap (λ (es : List ℕ). looked_up es a) forward ∙ nothing_looked_up (used / 2 + 1) a));
   places = λ k m at. absurd (none_there forwarding.moves.items k m moves at);
-  behind = next ∙ ap (λ (ms : List Relocation). 1 + words_in ms) (sym moves);
+  after = next ∙ ap (λ (ms : List Relocation). 1 + words_in ms) (sym moves);
 }
 
 -- before the first object is found
@@ -87,9 +87,10 @@ module _ (heap : Heap) (held : List Registers) (start : Forwarding) (used : ℕ)
   -- those in registers were found
   pub finds_front : (first : Forwarding)
       → ((s : State) → TracksThreads heap.space s start held → Tracks heap.space s first)
-      → FindsThreads start first held → (front words : ℕ) → front ≡ length first.moves.items → words ≡ first.next - 1
-      → FindsFront heap held (record { forwarding = first; front = front; held_words = words })
-  finds_front first finds found front words front_is words_are maps disk formed =
+      → FindsThreads start first held → (held_count words : ℕ) → held_count ≡ length first.moves.items
+      → words ≡ first.next - 1
+      → FindsHeldAlone heap held (record { forwarding = first; held_count = held_count; held_words = words })
+  finds_front first finds found held_count words front_is words_are maps disk formed =
       let tracks = finds (state_of heap held disk) (tracks_begun maps disk formed) in
       record {
         tracks = tracks;
@@ -103,8 +104,8 @@ module _ (heap : Heap) (held : List Registers) (start : Forwarding) (used : ℕ)
               let within = slice_get_within first.moves.items move.0 move.1 move.2 in
               (move.0, move.1, move.2, omega (arith, within, front_is), move.3);
         };
-        front = front_is;
-        held_words = let behind = tracks.holds.behind in omega (arith, words_are, behind);
+        held_count = front_is;
+        held_words = let after = tracks.holds.after in omega (arith, words_are, after);
       }
 
 -- the globals are words of references
@@ -135,10 +136,10 @@ tracks_scions heap held disk forwarding tracks = record {
       (ap (option_map (λ (p : ℕ × ℕ). record { home = p.0; address = p.1 })) at);
 }
 
--- objects that were found meanwhile are behind those in registers
-AreHeld-more : (s : State) (a b : Forwarding) (front : ℕ) → Grows a b → front ≡ length a.moves.items
-    → AreHeld s a.moves.items front → AreHeld s b.moves.items front
-AreHeld-more s a b front grows front_is held = record {
+-- objects that were found meanwhile are after those in registers
+AreHeld-more : (s : State) (a b : Forwarding) (held_count : ℕ) → Grows a b → held_count ≡ length a.moves.items
+    → AreHeld s a.moves.items held_count → AreHeld s b.moves.items held_count
+AreHeld-more s a b held_count grows front_is held = record {
   each = λ k m at under. held.each k m (was_there a b k m grows (omega (arith, under, front_is)) at) under;
   all = λ t r full.
       let move = held.all t r full in
@@ -147,7 +148,7 @@ AreHeld-more s a b front grows front_is held = record {
 
 -- The objects in registers were found, then what globals refer to, then the objects of live scions, and then others.
 pub record FindsRoots (heap : Heap) (s : State) (live : LiveSet) (second third last : Forwarding) : Type 0 where
-  pub front : IsFront heap.space s live
+  pub held_alone : IsHeldAlone heap.space s live
   pub globals_grow : Grows live.forwarding second
   pub scions_grow : Grows second third
   pub scions : FindsScions third heap.scions
@@ -162,18 +163,19 @@ module _ (heap : Heap) (held : List Registers) (disk : OnDisk) (live : LiveSet) 
   since_front = Grows-more live.forwarding second last roots.globals_grow since_globals
 
   -- the objects in registers are the first
-  pub front_held : AreHeld (state_of heap held disk) last.moves.items live.front
-  front_held = AreHeld-more (state_of heap held disk) live.forwarding last live.front since_front roots.front.front
-      roots.front.held
+  pub front_held : AreHeld (state_of heap held disk) last.moves.items live.held_count
+  front_held = AreHeld-more (state_of heap held disk) live.forwarding last live.held_count since_front
+      roots.held_alone.held_count
+      roots.held_alone.held
 
   -- the words that were counted are theirs
-  pub front_words : live.held_words ≡ words_in (take live.front last.moves.items)
+  pub front_words : live.held_words ≡ words_in (take live.held_count last.moves.items)
   front_words =
-      let front_is = roots.front.front in
-      let whole : take live.front live.forwarding.moves.items ≡ live.forwarding.moves.items =
-      take_all live.front live.forwarding.moves.items (omega (arith, front_is)) in
-      roots.front.held_words ∙ (sym (ap words_in whole)
-      ∙ sym (words_in-stay live.forwarding last live.front since_front (omega (arith, front_is))))
+      let front_is = roots.held_alone.held_count in
+      let whole : take live.held_count live.forwarding.moves.items ≡ live.forwarding.moves.items =
+      take_all live.held_count live.forwarding.moves.items (omega (arith, front_is)) in
+      roots.held_alone.held_words ∙ (sym (ap words_in whole)
+      ∙ sym (words_in-stay live.forwarding last live.held_count since_front (omega (arith, front_is))))
 
   pub scions_found : (k : ℕ) (x : Scion) → scion_in heap.scions k ≡ Some x → goes last x.address ≢ 0
   scions_found k x live =
@@ -182,9 +184,9 @@ module _ (heap : Heap) (held : List Registers) (disk : OnDisk) (live : LiveSet) 
       (subst (λ (address : ℕ). goes third address ≢ 0) at.2 (roots.scions k at.0 at.1))
 
 module _ (old now : Heap) (held : List Registers) (same : old ≡ now) (live : LiveSet)
-    (front : FindsFront now held live) where
-  front_of : FindsFront old held live
-  front_of = subst (λ (heap : Heap). FindsFront heap held live) (sym same) front
+    (held_alone : FindsHeldAlone now held live) where
+  front_of : FindsHeldAlone old held live
+  front_of = subst (λ (heap : Heap). FindsHeldAlone heap held live) (sym same) held_alone
 
   formed_before : IsFormed now held → IsFormed old held
   formed_before formed = subst (λ (heap : Heap). IsFormed heap held) (sym same) formed
@@ -194,7 +196,7 @@ module _ (old now : Heap) (held : List Registers) (same : old ≡ now) (live : L
       → FindsScions third old.scions → Grows third last → (maps : Maps) (disk : OnDisk)
       → Formed maps (state_of old held disk) → FindsRoots old (state_of old held disk) live second third last
   roots_found second third last globals_grow scions_grow scions rest_grows maps disk formed = record {
-    front = front_of maps disk formed;
+    held_alone = front_of maps disk formed;
     globals_grow = globals_grow;
     scions_grow = scions_grow;
     scions = scions;

@@ -1,4 +1,4 @@
--- Words of the copy are done, one behind the other.
+-- Words of the copy are done, one after the other.
 use Rattle.std.proofs.Common.{◌≡◌, ◌≢◌, ℕ, zero, suc, ◌+◌, ◌-◌, ◌<◌, ◌≤◌, List, length, refl, sym, ap, ◌∙◌, subst}
 use Rattle.std.proofs.Common.{arith, inl, inr, length-set, get_or, get_or-set_same, get_or-set_other}
 use Rattle.std.specs.Prelude.{nat_lt, Option, Some, slice_get, slice_index, slice_set}
@@ -21,7 +21,7 @@ use Rattle.melt_copy.specs.Evacuating.{AreCarried, Collection, Evacuates, Evacua
 use Rattle.melt_copy.specs.Evacuating.{PartMoves, place_of}
 use Rattle.melt_copy.proofs.Growing.{more-start, stays_at}
 use Rattle.melt_copy.proofs.Evacuated.{part_more, words_fit}
-use Rattle.melt_copy.proofs.Places.{place_below, place_behind}
+use Rattle.melt_copy.proofs.Places.{place_below, place_after}
 
 -- a word by its number
 numbered : (words : List ℕ) (k at : ℕ) → at ≡ k + 1 → word_numbered words at ≡ slice_index words k
@@ -40,8 +40,8 @@ same_object : {s : State} {f : ℕ → ℕ} {moves : List Relocation} {free : �
 same_object {moves} k j {a} {b} holds first second at a_from a_to b_from b_to = elim (cases_order k j) [
   | inl same ↦ (same, same_Some a b (sym first ∙ (ap (slice_get moves) same ∙ second)))
   | inr other ↦ absurd (elim other [
-    | inl before ↦ omega (arith, place_behind k j holds first second before, a_to, b_from)
-    | inr behind ↦ omega (arith, place_behind j k holds second first behind, b_to, a_from)
+    | inl before ↦ omega (arith, place_after k j holds first second before, a_to, b_from)
+    | inr after ↦ omega (arith, place_after j k holds second first after, b_to, a_from)
   ])
 ]
 
@@ -65,60 +65,61 @@ module _ {c : Collection} {space : SpaceWords} (to : ToSpace) {done : ℕ} (k : 
   module _ (now : ToSpace) (moves : now.moves ≡ to.moves) (names : now.names ≡ to.names)
       (next : now.next ≡ to.next) (size : length now.words.items ≡ length to.words.items)
       (others : (a : ℕ) → a ≢ done + 1 → word_numbered now.words.items a ≡ word_numbered to.words.items a)
-      (part : PartMoves c (nat_lt k c.front) (place_of to.moves) m i (word_numbered now.words.items (m.to + i))) where
-    same_moves : FindsMore to.moves now.moves
-    same_moves = subst (FindsMore to.moves) (sym moves) (more-start to.moves)
+      (part : PartMoves c (nat_lt k c.held_count) (place_of to.moves) m i (word_numbered now.words.items (m.to + i)))
+    where
+      same_moves : FindsMore to.moves now.moves
+      same_moves = subst (FindsMore to.moves) (sym moves) (more-start to.moves)
 
-    was_there : (j : ℕ) (x : Relocation) → slice_get now.moves j ≡ Some x → slice_get to.moves j ≡ Some x
-    was_there j x at = ap (λ (ms : List Relocation). slice_get ms j) (sym moves) ∙ at
+      was_there : (j : ℕ) (x : Relocation) → slice_get now.moves j ≡ Some x → slice_get to.moves j ≡ Some x
+      was_there j x at = ap (λ (ms : List Relocation). slice_get ms j) (sym moves) ∙ at
 
-    part_there : (j : ℕ) (x : Relocation) (l : ℕ) → slice_get to.moves j ≡ Some x → l < cost_of x.shape
-        → x.to + l ≡ done + 1
-        → PartMoves c (nat_lt j c.front) (place_of to.moves) x l (word_numbered now.words.items (x.to + l))
-    part_there j x l at under here =
-        let one = same_object k j it.holds there at (done + 1) (omega (arith, is)) (omega (arith, is, below))
-        (omega (arith, here)) (omega (arith, here, under)) in
-        let to_is : m.to ≡ x.to = ap (λ (y : Relocation). y.to) one.1 in
-        let same : i ≡ l = omega (arith, is, here, to_is) in
-        subst (λ (n : ℕ). PartMoves c (nat_lt n c.front) (place_of to.moves) x l
-        (word_numbered now.words.items (x.to + l))) one.0
-        (subst (λ (n : ℕ). PartMoves c (nat_lt k c.front) (place_of to.moves) x n
-        (word_numbered now.words.items (x.to + n))) same
-        (subst (λ (y : Relocation). PartMoves c (nat_lt k c.front) (place_of to.moves) y i
-        (word_numbered now.words.items (y.to + i))) one.1 part))
+      part_there : (j : ℕ) (x : Relocation) (l : ℕ) → slice_get to.moves j ≡ Some x → l < cost_of x.shape
+          → x.to + l ≡ done + 1
+          → PartMoves c (nat_lt j c.held_count) (place_of to.moves) x l (word_numbered now.words.items (x.to + l))
+      part_there j x l at under here =
+          let one = same_object k j it.holds there at (done + 1) (omega (arith, is)) (omega (arith, is, below))
+          (omega (arith, here)) (omega (arith, here, under)) in
+          let to_is : m.to ≡ x.to = ap (λ (y : Relocation). y.to) one.1 in
+          let same : i ≡ l = omega (arith, is, here, to_is) in
+          subst (λ (n : ℕ). PartMoves c (nat_lt n c.held_count) (place_of to.moves) x l
+          (word_numbered now.words.items (x.to + l))) one.0
+          (subst (λ (n : ℕ). PartMoves c (nat_lt k c.held_count) (place_of to.moves) x n
+          (word_numbered now.words.items (x.to + n))) same
+          (subst (λ (y : Relocation). PartMoves c (nat_lt k c.held_count) (place_of to.moves) y i
+          (word_numbered now.words.items (y.to + i))) one.1 part))
 
-    pub one_more : Evacuates c space now (done + 1)
-    one_more = record {
-      whole = it.whole;
-      holds = subst (λ (n : ℕ). Relocates c.state (place_of now.moves) now.moves (n + 1)) (sym next)
-          (subst (λ (ms : List Relocation). Relocates c.state (place_of ms) ms (to.next + 1)) (sym moves)
-          it.holds);
-      size = it.size;
-      free = it.free;
-      room = omega (arith, it.room, size);
-      within = omega (arith, part_within, next);
-      forwarded = subst (λ (ms : List Relocation). (a : ℕ) → place_of ms a ≢ 0
-          → word_at space a ≡ ref_word (Clean (place_of ms a))) (sym moves) it.forwarded;
-      kept = subst (λ (ms : List Relocation). (a : ℕ) → place_of ms a ≡ 0 → word_at space a ≡ c.state.word a)
-          (sym moves) it.kept;
-      moved = λ j x l at under up. elim (cases_eq (x.to + l) (done + 1)) [
-        | inl here ↦ part_more to.moves now.moves same_moves refl (part_there j x l (was_there j x at) under here)
-        | inr other ↦ part_more to.moves now.moves same_moves (others (x.to + l) other)
-            (it.moved j x l (was_there j x at) under (omega (arith, up, other)))
-      ];
-      waiting = λ j x l at under over.
-          others (x.to + l) (omega (arith, over)) ∙ it.waiting j x l (was_there j x at) under (omega (arith, over));
-      names = subst (λ (ms : List Relocation). AreCarried c.names now.names ms) (sym moves)
-          (subst (λ (r : Option Renaming). AreCarried c.names r to.moves) (sym names) it.names);
-      made = it.made;
-    }
+      pub one_more : Evacuates c space now (done + 1)
+      one_more = record {
+        whole = it.whole;
+        holds = subst (λ (n : ℕ). Relocates c.state (place_of now.moves) now.moves (n + 1)) (sym next)
+            (subst (λ (ms : List Relocation). Relocates c.state (place_of ms) ms (to.next + 1)) (sym moves)
+            it.holds);
+        size = it.size;
+        free = it.free;
+        room = omega (arith, it.room, size);
+        within = omega (arith, part_within, next);
+        forwarded = subst (λ (ms : List Relocation). (a : ℕ) → place_of ms a ≢ 0
+            → word_at space a ≡ ref_word (Clean (place_of ms a))) (sym moves) it.forwarded;
+        kept = subst (λ (ms : List Relocation). (a : ℕ) → place_of ms a ≡ 0 → word_at space a ≡ c.state.word a)
+            (sym moves) it.kept;
+        moved = λ j x l at under up. elim (cases_eq (x.to + l) (done + 1)) [
+          | inl here ↦ part_more to.moves now.moves same_moves refl (part_there j x l (was_there j x at) under here)
+          | inr other ↦ part_more to.moves now.moves same_moves (others (x.to + l) other)
+              (it.moved j x l (was_there j x at) under (omega (arith, up, other)))
+        ];
+        waiting = λ j x l at under over.
+            others (x.to + l) (omega (arith, over)) ∙ it.waiting j x l (was_there j x at) under (omega (arith, over));
+        names = subst (λ (ms : List Relocation). AreCarried c.names now.names ms) (sym moves)
+            (subst (λ (r : Option Renaming). AreCarried c.names r to.moves) (sym names) it.names);
+        made = it.made;
+      }
 
   -- the same where the word stays
-  module _ (part : PartMoves c (nat_lt k c.front) (place_of to.moves) m i (c.state.word (m.from + i))) where
+  module _ (part : PartMoves c (nat_lt k c.held_count) (place_of to.moves) m i (c.state.word (m.from + i))) where
     pub one_stays : Evacuates c space to (done + 1)
     one_stays =
         one_more to refl refl refl refl (λ a other. refl)
-        (subst (PartMoves c (nat_lt k c.front) (place_of to.moves) m i)
+        (subst (PartMoves c (nat_lt k c.held_count) (place_of to.moves) m i)
         (sym (it.waiting k m i there below (omega (arith, is)))) part)
 
 -- a word that is set, and no other
@@ -137,16 +138,16 @@ module _ {c : Collection} {space : SpaceWords} (to : ToSpace) (k : ℕ) {m : Rel
   -- numbers stay, so many of them
   pub numbers_stay : (done i count : ℕ) → Evacuates c space to done → m.to + i ≡ done + 1
       → 2 + m.shape.refs ≤ i → i + count ≤ cost_of m.shape → Evacuates c space to (done + count)
-  numbers_stay done i zero it is behind fits = subst (Evacuates c space to) (omega arith) it
-  numbers_stay done i (suc count) it is behind fits =
+  numbers_stay done i zero it is after fits = subst (Evacuates c space to) (omega arith) it
+  numbers_stay done i (suc count) it is after fits =
       subst (Evacuates c space to) (omega arith)
       (numbers_stay (done + 1) (i + 1) count
       (one_stays to k it there (omega (arith, fits)) is (record {
-        header = λ first. absurd (omega (arith, first, behind));
-        home = λ second. absurd (omega (arith, second, behind));
-        slot = λ from under. absurd (omega (arith, under, behind));
+        header = λ first. absurd (omega (arith, first, after));
+        home = λ second. absurd (omega (arith, second, after));
+        slot = λ from under. absurd (omega (arith, under, after));
         number = λ _. refl;
-      })) (omega (arith, is)) (omega (arith, behind)) (omega (arith, fits)))
+      })) (omega (arith, is)) (omega (arith, after)) (omega (arith, fits)))
 
 -- the next word of the copy is a slot of an object
 pub record SlotNext (c : Collection) (space : SpaceWords) (to : ToSpace) (place : ℕ) : Type 0 where
@@ -233,5 +234,5 @@ module _ {c : Collection} {space : SpaceWords} {to : ToSpace} {place : ℕ} (nex
             ∙ set_here now.words.items place word word_at_place (still_within now then_ more) next.place_is))
             (subst (λ (w : ℕ). WordMoves c.phase (place_of now.moves) w word)
             (part_waits to next.index next.evacuates next.there its_word next.place_is) moves);
-        number = λ behind. absurd (omega (arith, behind, next.below));
+        number = λ after. absurd (omega (arith, after, next.below));
       })

@@ -1,4 +1,4 @@
--- Objects are done, one behind the other, in the order in which they were found.
+-- Objects are done, one after the other, in the order in which they were found.
 use Rattle.std.proofs.Common.{◌≡◌, ℕ, ◌+◌, ◌<◌, ◌≤◌, List, length, take, get_or, refl, sym, ap, ◌∙◌, subst, arith}
 use Rattle.std.proofs.Common.{inl, inr, length-append, length-set}
 use Rattle.std.specs.Prelude.{Bool, nat_lt, Some, slice_get, slice_set}
@@ -76,7 +76,7 @@ module _ {c : Collection} {phase : Phase} {held : Bool} {space : SpaceWords} (to
                   ∙ ap (λ (b : Bool). header_word (header_after c.phase b h)) next.held_is)));
               home = λ second. absurd (omega (arith, second));
               slot = λ from _. absurd (omega (arith, from));
-              number = λ behind. absurd (omega (arith, behind));
+              number = λ later. absurd (omega (arith, later));
             })
 
         still_at : slice_get now.moves next.index ≡ Some next.move
@@ -89,7 +89,7 @@ module _ {c : Collection} {phase : Phase} {held : Bool} {space : SpaceWords} (to
               header = λ first. absurd (omega (arith, first));
               home = λ _. refl;
               slot = λ from _. absurd (omega (arith, from));
-              number = λ behind. absurd (omega (arith, behind));
+              number = λ later. absurd (omega (arith, later));
             }))
 
         -- its slots are next
@@ -104,7 +104,7 @@ module _ {c : Collection} {phase : Phase} {held : Bool} {space : SpaceWords} (to
           refs_are = ap (λ (x : Shape). x.refs) (sym shape_is);
         }
 
-        -- and it is done behind them
+        -- and it is done after them
         pub object_done : {space' : SpaceWords} (last : ToSpace) → Evacuates c space' last (done + 2 + shape.refs)
             → FindsMore now.moves last.moves → {cost : ℕ} → cost ≡ cost_of shape
             → ScansOne c space' last done (done + cost) next.move
@@ -150,21 +150,21 @@ module _ {c : Collection} {phase : Phase} {held_words : ℕ} {space : SpaceWords
     | inl there ↦ there
     | inr past ↦
         let all = ap words_in (take_all queue.count to.moves past) in
-        absurd (omega (arith, below, queue.done_is, all, queue.evacuates.holds.behind))
+        absurd (omega (arith, below, queue.done_is, all, queue.evacuates.holds.after))
   ]
 
   -- registers hold it where its words are among those of the objects in registers
   held_by : (m : Relocation) → slice_get to.moves queue.count ≡ Some m
-      → nat_lt done held_words ≡ nat_lt queue.count c.front
-  held_by m at = elim (cases_lt queue.count c.front) [
+      → nat_lt done held_words ≡ nat_lt queue.count c.held_count
+  held_by m at = elim (cases_lt queue.count c.held_count) [
     | inl below ↦
-        let words = words_in-before to.moves queue.count c.front m at below in
+        let words = words_in-before to.moves queue.count c.held_count m at below in
         lt-ltb done held_words (omega (arith, words, queue.done_is, queue.held_is))
-        ∙ sym (lt-ltb queue.count c.front below)
+        ∙ sym (lt-ltb queue.count c.held_count below)
     | inr above ↦
-        let words = fewer_words to.moves c.front queue.count above in
+        let words = fewer_words to.moves c.held_count queue.count above in
         le-ltb done held_words (omega (arith, words, queue.done_is, queue.held_is))
-        ∙ sym (le-ltb queue.count c.front above)
+        ∙ sym (le-ltb queue.count c.held_count above)
   ]
 
   -- it is next
@@ -185,7 +185,7 @@ module _ {c : Collection} {phase : Phase} {held_words : ℕ} {space : SpaceWords
     | inr past ↦ absurd (omega (arith, left below, past.0))
   ]
 
-  -- and then the one behind it is
+  -- and then the one after it is
   pub queue_more : {held : Bool} (next : EvacuatesNext c phase held space to done) {space' : SpaceWords} (now : ToSpace)
       {then_ : ℕ} → ScansOne c space' now done then_ next.move → FindsMore to.moves now.moves
       → EvacuatesQueue c phase held_words space' now then_
@@ -206,6 +206,6 @@ module _ {c : Collection} {phase : Phase} {held_words : ℕ} {space : SpaceWords
           words_in-next to.moves next.index next.move next.at,
           front_stays to.moves now.moves (next.index + 1) more (omega (arith, within)),
         );
-        front_within = omega (arith, queue.front_within, more_moves);
-        held_is = queue.held_is ∙ sym (front_stays to.moves now.moves c.front more queue.front_within);
+        held_within = omega (arith, queue.held_within, more_moves);
+        held_is = queue.held_is ∙ sym (front_stays to.moves now.moves c.held_count more queue.held_within);
       }

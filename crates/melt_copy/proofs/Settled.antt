@@ -193,7 +193,7 @@ module _ (old now : Heap) (place : ℕ) (so_far : SettlesBelow old now place) wh
     -- and so is one that is forwarded still
     forwarded_elsewhere : (p k a : ℕ) → place < p → p < length now.forward → Sends (slice_index now.forward p) k a
         → a ≢ address
-    forwarded_elsewhere p k a behind below also same =
+    forwarded_elsewhere p k a later below also same =
         let its : ForwardStands maps (state_of now [] disk) k a =
         stands maps now [] disk p k a formed below also in
         let word : word_at now.space (address + 1) ≡ 4294967296 * k + 4 * 0 =
@@ -202,7 +202,7 @@ module _ (old now : Heap) (place : ℕ) (so_far : SettlesBelow old now place) wh
         let one : k ≡ home = omega (arith, word, mine) in
         let at : p ≡ place = formed.one_forward p place home a address below within
         (subst (λ (j : ℕ). Sends (slice_index now.forward p) j a) one also) sends in
-        omega (arith, at, behind)
+        omega (arith, at, later)
 
     sent_here : SendsBelow old (place + 1) home address
     sent_here = record { at = place; below = omega arith; sends = here_before home address sends }

@@ -29,7 +29,7 @@ use Rattle.melt_scion.specs.GhostMaps.{NamePairs}
 use Rattle.melt_scion.specs.declared.heap.Heap.{Heap}
 use Rattle.melt_scion.proofs.Few.{room_for_scion}
 use Rattle.melt_scion.proofs.Forwarded.{forward_stands, forwarded_object}
-use Rattle.melt_scion.proofs.Geometry.{behind_header}
+use Rattle.melt_scion.proofs.Geometry.{after_header}
 use Rattle.melt_scion.proofs.Numbers.{contains_here}
 use Rattle.melt_scion.proofs.SameObjects.{header_was}
 use Rattle.melt_scion.proofs.Settling.{settle_same, settle_formed}
@@ -229,7 +229,7 @@ module _ (maps : Maps) (old new : Heap) (held : List Registers) (disk : OnDisk) 
       let it = stands maps old held disk place home address formed within sends in
       let at = object maps old held disk place home address formed within sends in
       let other : a ≢ address + 1 =
-      behind_header a 1 formed named it.named.1 at.1.starts (omega arith) (omega arith) refl in
+      after_header a 1 formed named it.named.1 at.1.starts (omega arith) (omega arith) refl in
       record { in_range = starts.in_range; word = settles.space.others a other ∙ starts.word }
 
   pub holds_more : (a : ℕ) → MayHold maps was a → MayHold maps is_now a

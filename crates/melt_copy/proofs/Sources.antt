@@ -70,10 +70,10 @@ pub found_fits : (s : State) (f : ℕ → ℕ) (moves : List Relocation) (free k
     → Relocates s f moves free → slice_get moves k ≡ Some m → free ≤ s.free
 found_fits s f moves free k m whole forwarding at =
     let o = source_object s m whole (forwarding.whole k m at) in
-    omega (arith, found_words s f moves free whole forwarding, forwarding.behind, o.below, o.first)
+    omega (arith, found_words s f moves free whole forwarding, forwarding.after, o.below, o.first)
 
 -- the move of an object that was found
-pub record Goes (f : ℕ → ℕ) (moves : List Relocation) (address : ℕ) : Type 0 where
+pub record MoveOf (f : ℕ → ℕ) (moves : List Relocation) (address : ℕ) : Type 0 where
   pub index : ℕ
   pub move : Relocation
   pub is : slice_get moves index ≡ Some move
@@ -82,7 +82,7 @@ pub record Goes (f : ℕ → ℕ) (moves : List Relocation) (address : ℕ) : Ty
 
 -- an address that was found has a move
 pub goes : (s : State) (f : ℕ → ℕ) (moves : List Relocation) (free address : ℕ) → Relocates s f moves free
-    → f address ≢ 0 → Goes f moves address
+    → f address ≢ 0 → MoveOf f moves address
 goes s f moves free address forwarding found =
     let m = forwarding.only address found in
     record { index = m.0; move = m.1; is = m.2; from = m.3; to = ap f (sym m.3) ∙ forwarding.found m.0 m.1 m.2 }
@@ -104,24 +104,26 @@ found_in_word f old new address moves refers =
 
 -- Nothing is left to find: the objects in registers were found, those of live scions, and those to which globals refer
 -- and the slots of all that were found.
-pub record IsClosed (s : State) (f : ℕ → ℕ) (moves : List Relocation) (front : ℕ) : Type 0 where
-  pub held : AreHeld s moves front
+pub record IsClosed (s : State) (f : ℕ → ℕ) (moves : List Relocation) (held_count : ℕ) : Type 0 where
+  pub held : AreHeld s moves held_count
   pub globals : (g address : ℕ) → g < s.base.globals → RefersTo (s.global g) address → f address ≢ 0
   pub scions : (k : ℕ) (x : Scion) → s.base.scion k ≡ Some x → f x.address ≢ 0
   pub slots : FindsAll s f moves
 
 -- so what can be reached was found
-pub reached_found : (s : State) (f : ℕ → ℕ) (moves : List Relocation) (free front : ℕ) → Relocates s f moves free
-    → IsClosed s f moves front → (address : ℕ) → Reached s address → f address ≢ 0
-reached_found s f moves free front forwarding closed address (in_register u r a holds first) =
+pub reached_found : (s : State) (f : ℕ → ℕ) (moves : List Relocation) (free held_count : ℕ) → Relocates s f moves free
+    → IsClosed s f moves held_count → (address : ℕ) → Reached s address → f address ≢ 0
+reached_found s f moves free held_count forwarding closed address (in_register u r a holds first) =
     let held : s.register u r ≢ 0 = λ none. omega (arith, holds, none, first) in
     let m = closed.held.all u r held in
     λ none. place_found s f moves free m.0 m.1 forwarding m.2 (ap f (m.4 ∙ holds) ∙ none)
-reached_found s f moves free front forwarding closed address (in_global g a below refers) =
+reached_found s f moves free held_count forwarding closed address (in_global g a below refers) =
     closed.globals g a below refers
-reached_found s f moves free front forwarding closed address (at_scion k x live) = closed.scions k x live
-reached_found s f moves free front forwarding closed address (in_slot from i a header reached starts below refers) =
-    let m = goes s f moves free from forwarding (reached_found s f moves free front forwarding closed from reached) in
+reached_found s f moves free held_count forwarding closed address (at_scion k x live) = closed.scions k x live
+reached_found s f moves free held_count forwarding closed address (in_slot from i a header reached starts below refers)
+    =
+    let m = goes s f moves free from forwarding (reached_found s f moves free held_count forwarding closed from reached)
+    in
     let starts_there : HeaderAt s m.move.from header = subst (λ (b : ℕ). HeaderAt s b header) (sym m.from) starts in
     let shape : header.shape.refs ≡ m.move.shape.refs =
     ap (λ (z : Shape). z.refs) (source_shape s m.move header (forwarding.whole m.index m.move m.is) starts_there) in
@@ -129,9 +131,9 @@ reached_found s f moves free front forwarding closed address (in_slot from i a h
     (subst (λ (b : ℕ). RefersTo (s.word (b + 2 + i)) a) (sym m.from) refers)
 
 -- a copy leaves nothing to find
-pub copy_closed : {phase : Phase} (s t : State) (f : ℕ → ℕ) (moves : List Relocation) (front : ℕ)
-    → IsCopy phase s t f moves front → IsClosed s f moves front
-copy_closed s t f moves front copy = record {
+pub copy_closed : {phase : Phase} (s t : State) (f : ℕ → ℕ) (moves : List Relocation) (held_count : ℕ)
+    → IsCopy phase s t f moves held_count → IsClosed s f moves held_count
+copy_closed s t f moves held_count copy = record {
   held = copy.held;
   globals = λ g address below refers.
       found_in_word f (s.global g) (t.global g) address (copy.global g below) refers;

@@ -54,14 +54,14 @@ none_moved s moves next empty at_0 = record {
   found = λ k m at. absurd (none_there moves k m empty at);
   only = λ a known. absurd (known (none_placed moves a empty));
   places = λ k m at. absurd (none_there moves k m empty at);
-  behind =
+  after =
       ap (λ (n : ℕ). n + 1) at_0 ∙ ap (λ (ms : List Relocation). 1 + words_in ms) (sym empty);
 }
 
 -- the collection of a heap, of whose objects registers hold so many
 abbrev pub collection_of : Phase → Heap → List Registers → OnDisk → ℕ → Collection
-collection_of phase heap held disk front =
-    record { phase = phase; state = state_of heap held disk; names = heap.names; front = front }
+collection_of phase heap held disk held_count =
+    record { phase = phase; state = state_of heap held disk; names = heap.names; held_count = held_count }
 
 -- a copy of no objects of a heap, whose names were taken
 pub record Begins (heap : Heap) (space : SpaceWords) (to : ToSpace) : Type 0 where
@@ -74,10 +74,11 @@ pub record Begins (heap : Heap) (space : SpaceWords) (to : ToSpace) : Type 0 whe
   pub made : NamesMade (length heap.space.list) heap.names
 
 -- before the first object is found
-pub evacuates_start : (maps : Maps) (disk : OnDisk) (heap : Heap) (held : List Registers) (phase : Phase) (front : ℕ)
+pub evacuates_start : (maps : Maps) (disk : OnDisk) (heap : Heap) (held : List Registers) (phase : Phase) (held_count :
+    ℕ)
     (space : SpaceWords) (to : ToSpace) → Begins heap space to → Formed maps (state_of heap held disk)
-    → EvacuatesThreads (collection_of phase heap held disk front) space to held
-evacuates_start maps disk heap held phase front space to begins formed = record {
+    → EvacuatesThreads (collection_of phase heap held disk held_count) space to held
+evacuates_start maps disk heap held phase held_count space to begins formed = record {
   evacuates = record {
     whole = whole_heap maps heap held disk begins.is_space formed;
     holds = none_moved (state_of heap held disk) to.moves to.next begins.moves begins.next;

@@ -36,7 +36,7 @@ put_others : (before : ℕ → ℕ) (home first second k : ℕ) → (k < home) �
 unfolding put
 put_others before home first second k other = elim other [
   | inl below ↦ grind (arith, nat_tests)
-  | inr behind ↦ grind (arith, nat_tests)
+  | inr later ↦ grind (arith, nat_tests)
 ]
 
 -- a write of two words that ends well
@@ -65,7 +65,7 @@ puts_two (Some old) image (Some new) home first second shows writes =
         shows = λ k. refl;
         others = λ k other. at k ∙ (elim other [
           | inl below ↦ outside.before k below
-          | inr behind ↦ outside.behind k behind
+          | inr later ↦ outside.after k later
         ] ∙ sym (shows k));
       };
       first_is = at home ∙ (ap (slice_index (with_words old home words)) zeroth
@@ -84,6 +84,6 @@ changes_two (Some old) image (Some new) home shows keeps = record {
   shows = λ k. refl;
   others = λ k other. elim other [
     | inl below ↦ keeps.before k below ∙ sym (shows k)
-    | inr behind ↦ keeps.behind k behind ∙ sym (shows k)
+    | inr later ↦ keeps.after k later ∙ sym (shows k)
   ];
 }

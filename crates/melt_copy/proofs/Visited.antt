@@ -16,7 +16,7 @@ use Rattle.melt_copy.specs.declared.forwarding.Forwarding.{Forwarding}
 use Rattle.melt_copy.specs.Moving.{IsRelocation, Relocates, words_in}
 use Rattle.melt_copy.specs.declared.live.LiveSet.{LiveSet}
 use Rattle.melt_copy.specs.Tracking.{goes, Grows, Tracks, TracksIn, TracksScions}
-use Rattle.melt_copy.specs.Reaching.{FindsFront}
+use Rattle.melt_copy.specs.Reaching.{FindsHeldAlone}
 use Rattle.melt_copy.specs.Visits.{CountsReached}
 use Rattle.melt_copy.proofs.Counting.{counts_moves}
 use Rattle.melt_copy.proofs.Places.{words_in-cons, same_source}
@@ -101,7 +101,7 @@ first_words [] (suc k) = omega arith
 first_words (m ∷ moves) (suc k) =
     omega (arith, first_words moves k, words_in-cons m moves, words_in-cons m (take k moves))
 
--- the turn of an object of the queue, behind which others may have been found
+-- the turn of an object of the queue, after which others may have been found
 module _ (a b : Forwarding) (done : ℕ) (m : Relocation) (grows : Grows a b)
     (at : slice_get a.moves.items done ≡ Some m) where
   pub turn_words : words_in (take (done + 1) b.moves.items) ≡ words_in (take done a.moves.items) + cost_of m.shape
@@ -113,7 +113,8 @@ module _ (a b : Forwarding) (done : ℕ) (m : Relocation) (grows : Grows a b)
   turn_within = let all = first_words b.moves.items (done + 1) in omega (arith, all, turn_words)
 
 -- What was found last takes no more words than all that can be reached in the heap, by what each call found before.
-module _ (old now : Heap) (held : List Registers) (same : old ≡ now) (live : LiveSet) (front : FindsFront now held live)
+module _ (old now : Heap) (held : List Registers) (same : old ≡ now) (live : LiveSet) (held_alone : FindsHeldAlone now
+    held live)
     (words : List ℕ) (words_are : words ≡ old.globals) (second : Forwarding)
     (finds_globals : (s : State) → TracksIn old.space s live.forwarding words → Tracks old.space s second)
     (third last : Forwarding)
@@ -124,6 +125,7 @@ module _ (old now : Heap) (held : List Registers) (same : old ≡ now) (live : L
       let before : IsFormed old held = subst (λ (heap : Heap). IsFormed heap held) (sym same) formed in
       let s : State = state_of old held before.disk in
       few_tracked old held before.disk last total
-      (finds_rest s (finds_scions s (before_scions old now held same live front words words_are second finds_globals
+      (finds_rest s (finds_scions s (before_scions old now held same live held_alone words words_are second
+      finds_globals
       before.maps before.disk before.formed)))
       (subst (λ (heap : Heap). CountsReached heap held total) (sym same) counts)

@@ -10,14 +10,14 @@ use Rattle.std.proofs.lemmas.List.{get_or_default}
 use Rattle.std.proofs.lemmas.List.Elements.{Contains-append_right}
 use Rattle.melt_space.specs.Space.{SpaceWords}
 use Rattle.melt_scion.specs.State.{State}
-use Rattle.melt_scion.specs.Scions.{Scions, IsTable, SetsAddress, EachOnce, scion_at, first_of, behind}
-use Rattle.melt_scion.proofs.Numbers.{contains_here, behind_split}
+use Rattle.melt_scion.specs.Scions.{Scions, IsTable, SetsAddress, EachOnce, scion_at, first_of, next_after}
+use Rattle.melt_scion.proofs.Numbers.{contains_here, after_split}
 use Rattle.melt_copy.specs.declared.forwarding.Forwarding.{Forwarding}
 use Rattle.melt_copy.specs.Tracking.{goes, moved_pair, Grows, Tracks, TracksAt, TracksScions, FindsScions, MovesScions}
 use Rattle.melt_copy.proofs.Growth.{Grows-more, Grows-start}
 use Rattle.melt_copy.proofs.Held.{still_known}
 
--- The scions that were passed are the first of those that are live, and the next is the one behind them.
+-- The scions that were passed are the first of those that are live, and the next is the one after them.
 pub record IsWalked (live done : List ℕ) (next : Option ℕ) : Type 0 where
   pub rest : List ℕ
   pub whole : live ≡ done ++ rest
@@ -29,30 +29,30 @@ begins [] x is = absurd (cc)
 begins (y ∷ more) x is = (more, let same : x ≡ y = cc in ap (λ (z : ℕ). z ∷ more) (sym same))
 
 module _ (live done : List ℕ) (x : ℕ) (walked : IsWalked live done (Some x)) where
-  behind_it : (more : List ℕ) × (walked.rest ≡ x ∷ more)
-  behind_it = begins walked.rest x walked.next_is
+  after_it : (more : List ℕ) × (walked.rest ≡ x ∷ more)
+  after_it = begins walked.rest x walked.next_is
 
-  whole_is : live ≡ done ++ x ∷ behind_it.0
-  whole_is = walked.whole ∙ ap (λ (xs : List ℕ). done ++ xs) behind_it.1
+  whole_is : live ≡ done ++ x ∷ after_it.0
+  whole_is = walked.whole ∙ ap (λ (xs : List ℕ). done ++ xs) after_it.1
 
   pub walk_live : Contains live x
   walk_live =
       subst (λ (xs : List ℕ). Contains xs x) (sym whole_is)
-      (Contains-append_right done (x ∷ behind_it.0) x (contains_here x behind_it.0))
+      (Contains-append_right done (x ∷ after_it.0) x (contains_here x after_it.0))
 
   pub walk_left : length done < length live
-  walk_left = let size = ap length whole_is ∙ length-append done (x ∷ behind_it.0) in omega (arith, size)
+  walk_left = let size = ap length whole_is ∙ length-append done (x ∷ after_it.0) in omega (arith, size)
 
-  pub walk_more : (next : Option ℕ) → EachOnce live → next ≡ behind live x → IsWalked live (done ++ x ∷ []) next
+  pub walk_more : (next : Option ℕ) → EachOnce live → next ≡ next_after live x → IsWalked live (done ++ x ∷ []) next
   walk_more next once is = record {
-    rest = behind_it.0;
-    whole = whole_is ∙ sym (append_assoc done (x ∷ []) behind_it.0);
+    rest = after_it.0;
+    whole = whole_is ∙ sym (append_assoc done (x ∷ []) after_it.0);
     next_is =
-        is ∙ (ap (λ (xs : List ℕ). behind xs x) whole_is
-        ∙ behind_split x done behind_it.0 (subst EachOnce whole_is once));
+        is ∙ (ap (λ (xs : List ℕ). next_after xs x) whole_is
+        ∙ after_split x done after_it.0 (subst EachOnce whole_is once));
   }
 
--- nothing is left behind the last
+-- nothing is left after the last
 nothing_left : (rest : List ℕ) → None ≡ first_of rest → rest ≡ []
 nothing_left [] is = refl
 nothing_left (y ∷ more) is = absurd (cc)

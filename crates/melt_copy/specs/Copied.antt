@@ -31,17 +31,17 @@ pub record Copied : Type 0 where
 
 -- Everything that can be reached was copied in this phase.
 pub record IsCopied (phase : Phase) (s : State) (copied : Copied) : Type 0 where
-  pub front : ℕ
+  pub held_count : ℕ
   pub whole : IsWhole s
   pub holds : Relocates s (place_of copied.moves) copied.moves (length copied.words + 1)
   pub objects : (k : ℕ) (m : Relocation) → slice_get copied.moves k ≡ Some m
-      → ObjectMoves phase (nat_lt k front) (place_of copied.moves) s (word_numbered copied.words) m
+      → ObjectMoves phase (nat_lt k held_count) (place_of copied.moves) s (word_numbered copied.words) m
   pub globals_count : length copied.globals ≡ s.base.globals
   pub globals : (g : ℕ) → g < s.base.globals
       → WordMoves phase (place_of copied.moves) (s.global g) (slice_index copied.globals g)
-  pub held : AreHeld s copied.moves front
+  pub held : AreHeld s copied.moves held_count
   pub scions : (k : ℕ) (x : Scion) → s.base.scion k ≡ Some x → place_of copied.moves x.address ≢ 0
-  pub held_words : copied.held ≡ words_in (take front copied.moves)
+  pub held_words : copied.held ≡ words_in (take held_count copied.moves)
 
 -- for each map and disk with which the heap is well formed
 abbrev pub CopiesHeap : Phase → Heap → List Registers → Copied → Type 0
@@ -56,7 +56,7 @@ PlacesApart moves =
 -- the names can be given anew
 pub record CanRename (used : ℕ) (names : Names) (moves : List Relocation) (numbers : List (Option ℕ)) : Type 0 where
   pub room : used ≤ length names.addresses
-  pub behind : (k : ℕ) → used < k → name_at names.addresses k ≡ None
+  pub after : (k : ℕ) → used < k → name_at names.addresses k ≡ None
   pub numbers_are : numbers ≡ map (λ (m : Relocation). name_at names.addresses m.from) moves
   pub places : (k : ℕ) (m : Relocation) → slice_get moves k ≡ Some m → (1 ≤ m.to) × (m.to ≤ used)
   pub apart : PlacesApart moves

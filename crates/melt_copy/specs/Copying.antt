@@ -36,7 +36,7 @@ pub record HasCollected (maps : Maps) (disk : OnDisk) (old new : Heap) (held hel
   pub collected : Collected phase maps after (state_of old held disk) (state_of new held_after disk) to home scion
   pub live : CountsWords (state_of new held_after disk) (IsNamed after) journal.live
   pub held_words : CountsWords (state_of old held disk) (HeldAt (state_of old held disk)) journal.held
-  pub told : Journals journal phase new.space.used
+  pub journals : Journals journal phase new.space.used
 
 -- What a copying collection of the phase made of heap and registers, whatever they stood for. It writes to no disk, so
 -- that is the same before and after it.

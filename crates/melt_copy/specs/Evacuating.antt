@@ -1,4 +1,4 @@
--- The copy of what stays, while it is made: copies with the references of before behind those that are done, and in the
+-- The copy of what stays, while it is made: copies with the references of before after those that are done, and in the
 -- place of each old header a reference to the copy.
 use Rattle.std.specs.Prelude.{◌≡◌, ◌≢◌, ℕ, ◌+◌, ◌<◌, ◌≤◌, ◌==◌, ◌⊎◌, nat_lt, Bool, if◌then◌else◌, List, [], ◌∷◌, ◌++◌}
 use Rattle.std.specs.Prelude.{length, take, slice_get, slice_index, Option, None, Some}
@@ -66,9 +66,9 @@ pub record Collection : Type 0 where
   pub phase : Phase
   pub state : State
   pub names : Option Names
-  pub front : ℕ
+  pub held_count : ℕ
 
--- the word of an object behind its header, so many words from that on, after the move
+-- the word of an object after its header, so many words from that on, after the move
 pub record PartMoves (c : Collection) (held : Bool) (f : ℕ → ℕ) (m : Relocation) (i word : ℕ) : Type 0 where
   pub header : i ≡ 0 → (header : Header) → HeaderAt c.state m.from header
       → word ≡ header_word (header_after c.phase held header)
@@ -76,7 +76,7 @@ pub record PartMoves (c : Collection) (held : Bool) (f : ℕ → ℕ) (m : Reloc
   pub slot : 2 ≤ i → i < 2 + m.shape.refs → WordMoves c.phase f (c.state.word (m.from + i)) word
   pub number : 2 + m.shape.refs ≤ i → word ≡ c.state.word (m.from + i)
 
--- The objects that were found are copied, one behind the other. The first words of the copy, so many, are as the phase
+-- The objects that were found are copied, one after the other. The first words of the copy, so many, are as the phase
 -- leaves them, and the others as they were. Each old header of these objects is a reference to the copy, and no other
 -- word of the space has changed.
 pub record Evacuates (c : Collection) (space : SpaceWords) (to : ToSpace) (done : ℕ) : Type 0 where
@@ -89,7 +89,7 @@ pub record Evacuates (c : Collection) (space : SpaceWords) (to : ToSpace) (done 
   pub forwarded : (a : ℕ) → place_of to.moves a ≢ 0 → word_at space a ≡ ref_word (Clean (place_of to.moves a))
   pub kept : (a : ℕ) → place_of to.moves a ≡ 0 → word_at space a ≡ c.state.word a
   pub moved : (k : ℕ) (m : Relocation) (i : ℕ) → slice_get to.moves k ≡ Some m → i < cost_of m.shape → m.to + i ≤ done
-      → PartMoves c (nat_lt k c.front) (place_of to.moves) m i (word_numbered to.words.items (m.to + i))
+      → PartMoves c (nat_lt k c.held_count) (place_of to.moves) m i (word_numbered to.words.items (m.to + i))
   pub waiting : (k : ℕ) (m : Relocation) (i : ℕ) → slice_get to.moves k ≡ Some m → i < cost_of m.shape
       → done < m.to + i → word_numbered to.words.items (m.to + i) ≡ c.state.word (m.from + i)
   pub names : AreCarried c.names to.names to.moves
@@ -126,7 +126,7 @@ pub record EvacuatesNext (c : Collection) (phase : Phase) (held : Bool) (space :
   pub move : Relocation
   pub at : slice_get to.moves index ≡ Some move
   pub place : move.to ≡ done + 1
-  pub held_is : held ≡ nat_lt index c.front
+  pub held_is : held ≡ nat_lt index c.held_count
 
 -- one object more is done
 pub record ScansOne (c : Collection) (space : SpaceWords) (to : ToSpace) (done next : ℕ) (m : Relocation) : Type 0 where
@@ -141,8 +141,8 @@ pub record EvacuatesQueue (c : Collection) (phase : Phase) (held_words : ℕ) (s
   pub count : ℕ
   pub count_within : count ≤ length to.moves
   pub done_is : done ≡ words_in (take count to.moves)
-  pub front_within : c.front ≤ length to.moves
-  pub held_is : held_words ≡ words_in (take c.front to.moves)
+  pub held_within : c.held_count ≤ length to.moves
+  pub held_is : held_words ≡ words_in (take c.held_count to.moves)
 
 -- and the objects in these registers can be found
 pub record EvacuatesHeld (c : Collection) (space : SpaceWords) (to : ToSpace) (register : ℕ → ℕ) : Type 0 where

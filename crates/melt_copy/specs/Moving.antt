@@ -43,7 +43,7 @@ pub record IsRelocation (s : State) (m : Relocation) : Type 0 where
   pub starts : HeaderAt s m.from header
   pub shape : header.shape ≡ m.shape
 
--- Each object that was found has its place, one behind the other from word 1 on; `f` tells the new address of an
+-- Each object that was found has its place, one after the other from word 1 on; `f` tells the new address of an
 -- object that was found, and 0 for every other address.
 pub record Relocates (s : State) (f : ℕ → ℕ) (moves : List Relocation) (free : ℕ) : Type 0 where
   pub whole : (k : ℕ) (m : Relocation) → slice_get moves k ≡ Some m → IsRelocation s m
@@ -51,7 +51,7 @@ pub record Relocates (s : State) (f : ℕ → ℕ) (moves : List Relocation) (fr
   pub only : (address : ℕ) → f address ≢ 0 → (k : ℕ) × (m : Relocation) × (slice_get moves k ≡ Some m)
       × (m.from ≡ address)
   pub places : (k : ℕ) (m : Relocation) → slice_get moves k ≡ Some m → m.to ≡ 1 + words_in (take k moves)
-  pub behind : free ≡ 1 + words_in moves
+  pub after : free ≡ 1 + words_in moves
 
 -- a reference after the move
 abbrev pub moved : Phase → (ℕ → ℕ) → Ref → Ref
@@ -94,21 +94,22 @@ pub record ObjectMoves (phase : Phase) (held : Bool) (f : ℕ → ℕ) (s : Stat
   pub slots : (i : ℕ) → i < m.shape.refs → WordMoves phase f (s.word (m.from + 2 + i)) (word (m.to + 2 + i))
   pub numbers : (j : ℕ) → j < m.shape.nums → word (m.to + 2 + m.shape.refs + j) ≡ s.word (m.from + 2 + m.shape.refs + j)
 
--- The first moves, as many as `front`, are those of the objects in registers.
-pub record AreHeld (s : State) (moves : List Relocation) (front : ℕ) : Type 0 where
-  pub each : (k : ℕ) (m : Relocation) → slice_get moves k ≡ Some m → k < front
+-- The first moves, as many as `held_count`, are those of the objects in registers.
+pub record AreHeld (s : State) (moves : List Relocation) (held_count : ℕ) : Type 0 where
+  pub each : (k : ℕ) (m : Relocation) → slice_get moves k ≡ Some m → k < held_count
       → (t : ℕ) × (r : ℕ) × (s.register t r ≡ m.from)
-  pub all : (t r : ℕ) → s.register t r ≢ 0 → (k : ℕ) × (m : Relocation) × (slice_get moves k ≡ Some m) × (k < front)
+  pub all : (t r : ℕ) → s.register t r ≢ 0 → (k : ℕ) × (m : Relocation) × (slice_get moves k ≡ Some m)
+      × (k < held_count)
       × (m.from ≡ s.register t r)
 
 -- The objects that were found stand at their places in the second state, with the headers that the phase leaves. The
 -- first ones are those in registers.
-pub record Carries (phase : Phase) (s t : State) (f : ℕ → ℕ) (moves : List Relocation) (front : ℕ) : Type 0 where
+pub record Carries (phase : Phase) (s t : State) (f : ℕ → ℕ) (moves : List Relocation) (held_count : ℕ) : Type 0 where
   pub whole : IsWhole s
   pub found : Relocates s f moves t.free
   pub header : (k : ℕ) (m : Relocation) (header : Header) → slice_get moves k ≡ Some m → HeaderAt s m.from header
-      → t.word m.to ≡ header_word (header_after phase (nat_lt k front) header)
-  pub held : AreHeld s moves front
+      → t.word m.to ≡ header_word (header_after phase (nat_lt k held_count) header)
+  pub held : AreHeld s moves held_count
   pub size : t.base.size ≡ s.base.size
 
 -- a scion whose object moved
@@ -117,12 +118,13 @@ moved_scion f x = record { home = x.home; address = f x.address }
 
 -- The second state is a copy of what can be reached in the first, with the marks that the phase leaves. The disk is as
 -- it was, and no forwarding word is filled.
-pub record IsCopy (phase : Phase) (s t : State) (f : ℕ → ℕ) (moves : List Relocation) (front : ℕ) : Type 0 where
+pub record IsCopy (phase : Phase) (s t : State) (f : ℕ → ℕ) (moves : List Relocation) (held_count : ℕ) : Type 0 where
   pub found : Relocates s f moves t.free
-  pub objects : (k : ℕ) (m : Relocation) → slice_get moves k ≡ Some m → ObjectMoves phase (nat_lt k front) f s t.word m
+  pub objects : (k : ℕ) (m : Relocation) → slice_get moves k ≡ Some m → ObjectMoves phase (nat_lt k held_count) f s
+      t.word m
   pub global : (g : ℕ) → g < s.base.globals → WordMoves phase f (s.global g) (t.global g)
   pub register : (u r : ℕ) → t.register u r ≡ f (s.register u r)
-  pub held : AreHeld s moves front
+  pub held : AreHeld s moves held_count
   pub scions_found : (k : ℕ) (x : Scion) → s.base.scion k ≡ Some x → f x.address ≢ 0
   pub scion : (k : ℕ) → t.base.scion k ≡ option_map (moved_scion f) (s.base.scion k)
   pub sizes : SameSizes s.base t.base

@@ -12,16 +12,16 @@ use Rattle.melt_copy.specs.Moving.{IsWhole, Relocates, AreHeld, words_in}
 use Rattle.melt_copy.specs.Tracking.{Tracks, goes}
 
 -- The objects in registers were found, and no others were yet.
-pub record IsFront (space : SpaceWords) (s : State) (live : LiveSet) : Type 0 where
+pub record IsHeldAlone (space : SpaceWords) (s : State) (live : LiveSet) : Type 0 where
   pub tracks : Tracks space s live.forwarding
-  pub held : AreHeld s live.forwarding.moves.items live.front
-  pub front : live.front ≡ length live.forwarding.moves.items
+  pub held : AreHeld s live.forwarding.moves.items live.held_count
+  pub held_count : live.held_count ≡ length live.forwarding.moves.items
   pub held_words : live.held_words ≡ words_in live.forwarding.moves.items
 
 -- for each map and disk with which the heap is well formed
-abbrev pub FindsFront : Heap → List Registers → LiveSet → Type 0
-FindsFront heap held live = (maps : Maps) (disk : OnDisk) → Formed maps (state_of heap held disk)
-    → IsFront heap.space (state_of heap held disk) live
+abbrev pub FindsHeldAlone : Heap → List Registers → LiveSet → Type 0
+FindsHeldAlone heap held live = (maps : Maps) (disk : OnDisk) → Formed maps (state_of heap held disk)
+    → IsHeldAlone heap.space (state_of heap held disk) live
 
 -- the objects to which these words refer were found
 abbrev pub FindsWords : (ℕ → ℕ) → List ℕ → Type 0
@@ -40,8 +40,8 @@ pub record IsLiveSet (s : State) (live : LiveSet) : Type 0 where
   pub whole : IsWhole s
   pub found : Relocates s (goes live.forwarding) live.forwarding.moves.items live.forwarding.next
   pub all : (address : ℕ) → Reached s address → goes live.forwarding address ≢ 0
-  pub held : AreHeld s live.forwarding.moves.items live.front
-  pub held_words : live.held_words ≡ words_in (take live.front live.forwarding.moves.items)
+  pub held : AreHeld s live.forwarding.moves.items live.held_count
+  pub held_words : live.held_words ≡ words_in (take live.held_count live.forwarding.moves.items)
 
 -- for each map and disk with which the heap is well formed
 abbrev pub ReachesLive : Heap → List Registers → LiveSet → Type 0

@@ -58,7 +58,7 @@ abbrev pub word_numbered : List ℕ → ℕ → ℕ
 word_numbered words zero = 0
 word_numbered words (suc k) = slice_index words k
 
--- words are put behind those that are there
+-- words are put after those that are there
 pub record Extends (old new : List ℕ) (count : ℕ) : Type 0 where
   pub size : length new ≡ length old + count
   pub before : (k : ℕ) → k < length old → slice_index new k ≡ slice_index old k

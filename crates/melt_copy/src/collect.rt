@@ -6,7 +6,7 @@
 //! Objects in registers are found before all others. So their copies are the first, and one number tells of each copy
 //! whether a register holds its object, on which its stale bit depends: that of the words of the copies when the last
 //! register was looked at. Each is counted once there, however many registers hold it. What globals refer to comes
-//! behind them, then the objects of live scions, to which records on disk refer, and then what slots do.
+//! after them, then the objects of live scions, to which records on disk refer, and then what slots do.
 ghost use Rattle.std.specs.Prelude.{◌≡◌, ℕ, ◌+◌, ◌*◌, ◌<◌, ◌≤◌, length, None, Option, IfOk, OnErr};
 ghost use Rattle.melt_space.specs.Space.{Replaces};
 ghost use Rattle.melt_scion.specs.Heaps.{IsFormed, IsSettled};

@@ -73,7 +73,7 @@ pub fn numbers_of<L: Ledger>(
 }
 
 /// Gives the objects that moved their numbers at their new addresses, and takes all others away. `used` words were
-/// in use; no object was behind them.
+/// in use; no object was after them.
 pub fn rename<L: Ledger>(
     names: &mut AddressNames,
     used: u32,
@@ -82,7 +82,7 @@ pub fn rename<L: Ledger>(
     steps: &mut Steps<L>,
 )
     requires used { used ≤ length names.old }
-    requires behind { (k : ℕ) → used < k → name_at names.old k ≡ None }
+    requires after { (k : ℕ) → used < k → name_at names.old k ≡ None }
     requires numbers { numbers.now ≡ map (λ (m : Relocation). name_at names.old m.from) moves.now }
     requires places { (k : ℕ) (m : Relocation) → slice_get moves.now k ≡ Some m → (1 ≤ m.to) × (m.to ≤ used) }
     requires apart { (i j : ℕ) (m n : Relocation) → slice_get moves.now i ≡ Some m → slice_get moves.now j ≡ Some n

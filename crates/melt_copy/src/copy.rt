@@ -24,7 +24,7 @@ pub fn visit_words<L: Ledger>(words: &[u64], steps: &mut Steps<L>)
     }
 }
 
-/// Puts a few words behind those that are there. There is room for them.
+/// Puts a few words after those that are there. There is room for them.
 fn push_few(out: &mut Vec<u64>, words: &[u64])
     requires { length out.old.items + length words.now ≤ vec_capacity out.old }
     ensures items { out.new.items ≡ out.old.items ++ words.now }
@@ -35,7 +35,7 @@ fn push_few(out: &mut Vec<u64>, words: &[u64])
     }
 }
 
-/// Puts words behind those that are there, each as it is. There is room for them. Counts a step for each.
+/// Puts words after those that are there, each as it is. There is room for them. Counts a step for each.
 pub fn push_words<L: Ledger>(out: &mut Vec<u64>, words: &[u64], steps: &mut Steps<L>)
     requires { length out.old.items + length words.now ≤ vec_capacity out.old }
     ensures items { out.new.items ≡ out.old.items ++ words.now }

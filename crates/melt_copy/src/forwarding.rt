@@ -36,7 +36,7 @@ pub struct Forwarding {
     /// An entry for each two addresses from 0 on, 0 where no object was found at either.
     pub entries: Vec<u32>,
     pub moves: Vec<Relocation>,
-    /// The first place behind the objects that were found.
+    /// The first place after the objects that were found.
     pub next: u32,
 }
 

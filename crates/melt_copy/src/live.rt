@@ -8,7 +8,7 @@ ghost use Rattle.std.specs.Prelude.{◌≡◌, ◌≢◌, ℕ, ◌+◌, ◌*◌,
 ghost use Rattle.melt_scion.specs.Heaps.{IsFormed};
 ghost use Rattle.melt_scion.specs.State.{State};
 ghost use Rattle.melt_copy.specs.Moving.{words_in};
-ghost use Rattle.melt_copy.specs.Reaching.{FindsAll, FindsFront, FindsSlots, FindsWords, ReachesLive};
+ghost use Rattle.melt_copy.specs.Reaching.{FindsAll, FindsHeldAlone, FindsSlots, FindsWords, ReachesLive};
 ghost use Rattle.melt_copy.specs.Tracking.{FindsHeld, FindsThreads, Grows, Tracks, TracksHeld, TracksIn, TracksOf};
 ghost use Rattle.melt_copy.specs.Tracking.{TracksThreads, goes};
 ghost use Rattle.melt_copy.specs.Visits.{CountsReached};
@@ -27,7 +27,7 @@ pub struct LiveSet {
     /// The objects that were found, each with the place that it would have if all of them stayed.
     pub forwarding: Forwarding,
     /// How many of them registers hold: the first ones.
-    pub front: usize,
+    pub held_count: usize,
     /// The words of these.
     pub held_words: u32,
 }
@@ -77,23 +77,23 @@ fn find_all_held<L: Ledger>(
 }
 
 /// Finds the objects in registers, before all others.
-pub fn find_front<L: Ledger>(
+pub fn begin_with_held<L: Ledger>(
     alloc: Global,
     heap: &Heap,
     held: &[Registers],
     steps: &mut Steps<L>,
 ) -> Result<LiveSet, NoMemory>
     requires formed { IsFormed heap.now held.now }
-    ensures finds { IfOk result (FindsFront heap.now held.now) }
+    ensures finds { IfOk result (FindsHeldAlone heap.now held.now) }
     ensures visits { steps.new ≤ steps.old + 17 * length held.now }
 {
     let mut forwarding = Forwarding::new(alloc, heap.space.used())?;
     find_all_held(&mut forwarding, &heap.space, held, steps)?;
-    let front = forwarding.moves.len();
+    let held_count = forwarding.moves.len();
     let held_words = forwarding.next - 1;
     Ok(LiveSet {
         forwarding,
-        front,
+        held_count,
         held_words,
     })
 }
@@ -176,7 +176,7 @@ pub fn reach<L: Ledger>(
         → steps.new ≤ steps.old + 17 * length held.now + length heap.now.globals
         + 2 * length heap.now.scions.live + objects }
 {
-    let mut live = find_front(alloc, heap, held, steps)?;
+    let mut live = begin_with_held(alloc, heap, held, steps)?;
     let found = &mut live.forwarding;
     find_words(found, &heap.space, &heap.globals.items, steps)?;
     let scions = live_scions(alloc, &heap.scions, steps)?;

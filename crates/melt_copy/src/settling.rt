@@ -77,7 +77,7 @@ fn settle_one<D: StaleDisk>(
 /// Settles all objects that came back from the disk in this epoch, by ascending place of their forwarding words, with
 /// one write each, and answers how many these were. Takes no memory.
 ///
-/// At the first write that fails it stops: the objects before it are settled, and it and those behind it are forwarded
+/// At the first write that fails it stops: the objects before it are settled, and it and those after it are forwarded
 /// as before, so that a later call goes on with it, by the same scion.
 pub fn settle<D: StaleDisk>(heap: &mut Heap, space: &mut StaleSpace<'_, D>) -> Result<u32, Failed>
     requires { IsFormedTo heap.old space.old.end }

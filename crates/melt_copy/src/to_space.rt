@@ -1,9 +1,9 @@
 //! The copy of what stays, while it is made.
 //!
 //! The order is that of C. J. Cheney, "A Nonrecursive List Compacting Algorithm", Communications of the ACM 13 (1970).
-//! An object that is found is copied at once, behind those that were copied before, and a clean reference to the copy
+//! An object that is found is copied at once, after those that were copied before, and a clean reference to the copy
 //! takes the place of its old header: who meets it again reads there where it went. The copies are the queue: those
-//! whose references were not moved yet stand behind those that are done, each with its header. Once none is left, each
+//! whose references were not moved yet stand after those that are done, each with its header. Once none is left, each
 //! reference in the copy is to an object in it: what is reached was copied, and nothing else was.
 //!
 //! Objects lie apart from each other among the words in use. So of an object that is still to be found no word has
@@ -35,7 +35,7 @@ use std::sync::ledger::Ledger;
 /// The copies of the objects that were found, in a vector of as many words as are in use, or more.
 #[derive(Drop)]
 pub struct ToSpace {
-    /// The words of the copies, from word 1 on, and behind them words that have no meaning yet.
+    /// The words of the copies, from word 1 on, and after them words that have no meaning yet.
     pub words: Vec<u64>,
     /// How many words the copies are.
     pub next: usize,
@@ -73,7 +73,7 @@ impl ToSpace {
         }
     }
 
-    /// Puts words behind those of the copies, where others stand that have no meaning. Counts a step for each.
+    /// Puts words after those of the copies, where others stand that have no meaning. Counts a step for each.
     #[inline(always)]
     fn put<L: Ledger>(&mut self, words: &[u64], steps: &mut Steps<L>)
         requires { self.old.next + length words.now ≤ length self.old.words.items }
@@ -140,7 +140,7 @@ impl ToSpace {
         }
     }
 
-    /// Moves the references in the words of the copy behind the first ones, so many of them.
+    /// Moves the references in the words of the copy after the first ones, so many of them.
     #[inline(always)]
     fn move_slots<L: Ledger>(
         &mut self,
@@ -163,7 +163,7 @@ impl ToSpace {
         }
     }
 
-    /// Moves the references of the object whose copy begins behind so many words, and answers behind how many words the
+    /// Moves the references of the object whose copy begins after so many words, and answers after how many words the
     /// next one begins.
     #[inline(always)]
     fn scan_object<L: Ledger>(

@@ -196,7 +196,8 @@ fn a_heap_without_objects_stays_so(rt: HostRuntime) -> Result<(), Fail> {
     compared
 }
 
-/// Collects the heap of `three_objects` in a phase. Behind it the leaf has the stale bit or has not, and the global refers
+/// Collects the heap of `three_objects` in a phase. After it the leaf has the stale bit or has not, and the global
+/// refers
 /// to it by this word.
 fn collect_three(
     alloc: Global,
@@ -295,7 +296,7 @@ fn same_live(
     sizes: (u32, usize, u32),
     places: &[(u32, u32)],
 ) -> Result<(), Fail> {
-    let found = (live.forwarding.next, live.front, live.held_words);
+    let found = (live.forwarding.next, live.held_count, live.held_words);
     same((live.forwarding.moves.as_slice(), found), (moves, sizes))?;
     same_places(&live.forwarding, places)
 }
@@ -387,7 +388,7 @@ fn reserve_two<D: StaleDisk>(space: &mut StaleSpace<'_, D>) -> Result<(), Fail>
     same((first, second), (1, 3))
 }
 
-/// The words of the disk behind both are settled: the Stub of each leaf, with its scion.
+/// The words of the disk after both are settled: the Stub of each leaf, with its scion.
 const STUBS: [u64; 5] = [0, 4_294_967_298, 1, 12_884_901_890, 2];
 
 /// Settles the heap of `two_forwarded` over a disk, and compares what is settled, and the heap then.

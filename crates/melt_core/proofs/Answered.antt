@@ -31,7 +31,7 @@ use Rattle.melt_core.specs.Views.{View, Standing, maps, state, call_of, stage_in
 use Rattle.melt_core.specs.Views.{values_of, held_value, held_values, registers_in}
 use Rattle.melt_core.proofs.Claims.{claims_ends}
 use Rattle.melt_core.proofs.Asked.{call_at, inside, set_none}
-use Rattle.melt_core.proofs.Words.{same_behind}
+use Rattle.melt_core.proofs.Words.{same_after}
 use Rattle.melt_core.proofs.Standing.{advances_where, call_here, same_rests}
 use Rattle.melt_core.proofs.Plain.{Plain, OnlyMoves, MakesNothing, plain}
 use Rattle.melt_core.proofs.Registers.{register_keeps, register_other, registers_other, threads_set, values_set}
@@ -126,7 +126,7 @@ local_set disk v t r address s within may = record {
 pub local_still : (disk : OnDisk) (v : View) (t : ℕ) → Standing false disk v → Local disk v v.held t
 local_still disk v t s = record { threads = refl; others = λ u differ. refl; may_hold = s.registers t }
 
--- an event behind which the call is over, by what it shows of words and registers
+-- an event after which the call is over, by what it shows of words and registers
 over_plain : (disk : OnDisk) (v w : View) (t cleared : ℕ) (act : Option Act)
     → ((told : Bool) → Standing told disk v → Event told v.log (maps v) (maps w) (state disk v) (state disk w) no_region
     cleared act)
@@ -192,7 +192,7 @@ over_advances {disk} {v} {w} {t} {o} {stage} {act} asks is =
 local_plain : (disk : OnDisk) (v : View) (held : List Registers) (t : ℕ) → call_of v t ≡ None → Local disk v held t
     → Plain (Unit {0}) disk v (record v { held = held }) t 0 None None
 local_plain disk v held t first local =
-    over_plain disk v (record v { held = held }) t 0 None (λ told stands. quiet refl (same_behind disk v held)) tt
+    over_plain disk v (record v { held = held }) t 0 None (λ told stands. quiet refl (same_after disk v held)) tt
     (ap (λ (calls : List (Option Call)). record v { held = held; calls = calls }) (set_none v.calls t first)) refl local
     (ap claimed_in first)
     (λ need is. subst (λ (g : Option Stage). Lacks g need) (ap stage_in first) is)
@@ -207,7 +207,7 @@ first_answered disk v held t o reply asks first is replies =
     answered asks (subst (λ (g : Option Stage). Plain (Unit {0}) disk v w t (cleared_by g) None None) (sym none)
     (local_plain disk v held t first is))
     (subst (λ (g : Option Stage). Applies (maps v) (maps w) (state disk v) (state disk w)
-    (change_of (state disk v) (register_in v.held t) (rest_of v t) g)) (sym none) (refl, same_behind disk v held))
+    (change_of (state disk v) (register_in v.held t) (rest_of v t) g)) (sym none) (refl, same_after disk v held))
     replies
 
 -- where the operation has no task, its first event is its last, and it never pauses

@@ -31,7 +31,7 @@ pub Answers_by : (t : ℕ) (h : List Entry) (rs : List Value) (o : Op) {x : Valu
 Answers_by t h rs o {x} is given told registers history = record {
   value = x;
   given = ap (λ (y : Deed). gives h y.act) is ∙ given;
-  told = ap (λ (y : Deed). y.reply) is ∙ told;
+  reply_is = ap (λ (y : Deed). y.reply) is ∙ told;
   registers = registers ∙ ap (λ (y : Deed). y.registers) (sym is);
   history = history ∙ ap (λ (y : Deed). with_entry t h y.act) (sym is);
 }

@@ -26,7 +26,7 @@ use Rattle.melt_core.specs.declared.call.Place.TheVariants.{Field, Global}
 use Rattle.melt_core.specs.declared.call.Search.{Search}
 use Rattle.melt_core.specs.Stages.{Fits, LoadsAt, FindsTag, Probes, ReadAs, Next, Nothing, change_of, cleared_by}
 use Rattle.melt_core.specs.Stages.{further, retried, reached}
-use Rattle.melt_core.specs.Advances.{Asks, Continues, MayMove}
+use Rattle.melt_core.specs.Advances.{Asks, Continues, MayMakeEvent}
 use Rattle.melt_core.specs.Views.{View, Standing, maps, state, call_of, stage_in, stage_of, rest_of}
 
 -- the call at a stage is of the operation
@@ -74,7 +74,7 @@ finds_fits : (register : ℕ → ℕ) (o : Op) (word : ℕ) (place : Place) (dst
 finds_fits register o word place dst next loads (inl stale) = subst (Fits register o) (sym stale.2) loads
 finds_fits register o word place dst next loads (inr home) = subst (Fits register o) (sym home.2) loads
 
--- behind a forwarding word the stages at which it may leave a call are so, and so is the next
+-- after a forwarding word the stages at which it may leave a call are so, and so is the next
 probes_fits : (P : Stage → Type 0) (s : State) (search : Search) (empty another next : Stage)
     → ((address : ℕ) → P (reached search address)) → P empty → P another → Probes s search empty another next → P next
 probes_fits P s search empty another next at_found at_empty at_another is = elim is.1 [
@@ -91,7 +91,7 @@ body_fits : (register : ℕ → ℕ) (o : Op) (search : Search) (shape : Shape) 
 body_fits register o search shape true loads = loads
 body_fits register o search shape false loads = loads
 
--- and behind a head
+-- and after a head
 read_fits : (P : Stage → Type 0) (s : State) (search : Search) (shape : Shape) (kind : Kind) (next : Stage)
     → ((whole : Bool) → P (if whole then BodyRead search shape else HeadRead search shape))
     → ((target : ℕ) → P (Looked search.place (Disk search.home) target search.dst)) → ReadAs s search shape kind next
@@ -100,7 +100,7 @@ read_fits P s search shape Body next at_body at_stub is =
     subst P (sym is) (at_body (shape.refs + shape.nums == 0))
 read_fits P s search shape (Stub scion) next at_body at_stub is = subst P (sym is.2) (at_stub is.0)
 
--- behind an event that goes on the call is one of its operation
+-- after an event that goes on the call is one of its operation
 pub next_fits : (maps : Maps) (s : State) (register : ℕ → ℕ) (stop : Bool) (o : Op) {c : Option Call} (next : Stage)
     → Continues c o → ((d : Call) → c ≡ Some d → Fits register d.op d.stage)
     → Next maps s register stop o (stage_in c) next → Fits register o next
@@ -177,7 +177,8 @@ still_clears s register rest (Some (Retrying a)) still = refl
 still_clears s register rest (Some (LackingCopy search shape)) still = refl
 
 -- what an event asks over some disk, it asks over each over which the words are well formed
-pub asks_over : (v : View) (t : ℕ) (o : Op) → MayMove v t o → (disk : OnDisk) → Standing false disk v → Asks disk v t o
+pub asks_over : (v : View) (t : ℕ) (o : Op) → MayMakeEvent v t o → (disk : OnDisk) → Standing false disk v
+    → Asks disk v t o
 asks_over v t o may disk stands = record {
   stands = stands;
   thread = may.asks.thread;

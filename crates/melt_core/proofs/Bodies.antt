@@ -79,7 +79,7 @@ whole_copy m s t a rest stored has owns all changes = record {
   ];
 }
 
--- A word of a copy behind its header was stored.
+-- A word of a copy after its header was stored.
 pub copy_word_advances : {disk : OnDisk} {v : View} {space : SpaceWords} {t : ℕ} {o : Op} {a : Activation}
     {stored word : ℕ} → Asks disk v t o → stage_of v t ≡ Some (Copying a stored) → stored + 1 < cost_of a.shape
     → word ≡ copy_word a.search.home a.shape (rest_of v t) (stored + 1)

@@ -151,7 +151,7 @@ claims_as : (stop : Bool) (next stage : Stage) (left : ℕ) → next ≡ stage �
 claims_as stop next stage left is below =
     subst (λ (x : Stage). claims_left stop (Some x) ≤ left) (sym is) below
 
--- behind a forwarding word, where the stages at which it may leave the call make no more
+-- after a forwarding word, where the stages at which it may leave the call make no more
 claims_probes : (stop : Bool) (s : State) (search : Search) (empty another next : Stage) {left : ℕ}
     → claims_left stop None ≤ left → claims_left stop (Some empty) ≤ left → claims_left stop (Some another) ≤ left
     → Probes s search empty another next → claims_left stop (Some next) ≤ left

@@ -211,7 +211,7 @@ Counts_published {disk} {v} w t {shape} e s within at stage named act log free w
       calls = calls;
     })
 
--- What a commit shows: the call owned the region, and the words behind it stand for the history, with an object of the
+-- What a commit shows: the call owned the region, and the words after it stand for the history, with an object of the
 -- shape there.
 pub record Commits (disk : OnDisk) (v w : View) (t address n : ℕ) (shape : Shape) (after : Option Call) : Type 0 where
   pub tells : Tells w.log (maps w) (state disk w)

@@ -28,7 +28,8 @@ use Rattle.melt_core.specs.Known.{IsObjectAt, IsPlace, HasLooked, Known, region,
 use Rattle.melt_core.specs.Known.{Searches, Misses, Fetches, HoldsCopy}
 use Rattle.melt_core.specs.declared.answer.Refusal.TheVariants as refusal
 use Rattle.melt_core.specs.declared.answer.StepResult.TheVariants.{Going, Answered, Refused}
-use Rattle.melt_core.specs.Advances.{MayAdvance, Moves, Advances, AdvancesWhere, AdvancesOver, StepOutcome, TellsDisk}
+use Rattle.melt_core.specs.Advances.{MayAdvance, MakesEvent, Advances, AdvancesWhere, AdvancesOver, StepOutcome}
+use Rattle.melt_core.specs.Advances.{TellsDisk}
 use Rattle.melt_core.specs.Views.{View, Standing, maps, state, rest_of}
 
 -- the state over another disk
@@ -294,7 +295,7 @@ weaker tells {disk} {v} {w} {t} {o} {result} is = record {
 
 -- an event over each disk over which the words are well formed is one over each that ends where one of them does
 pub moves_advance : {end : ℕ} (image : Option (List ℕ)) {v w : View} {t : ℕ} {o : Op} {result : StepResult}
-    → MayAdvance end v t o → Moves v w t o result → Advances end image v w t o result
+    → MayAdvance end v t o → MakesEvent v w t o result → Advances end image v w t o result
 moves_advance image {v} may moves = record {
   over = λ disk ends. weaker (TellsDisk image disk)
       (moves.over disk (stands_over may.disk disk v (ends ∙ sym may.ends) may.asks.stands));

@@ -28,7 +28,7 @@ use Rattle.melt_core.specs.Known.{Known, HoldsCopy, Evolves, region, region_of}
 use Rattle.melt_core.specs.Events.{Event, Keeps, quiet, commits}
 use Rattle.melt_core.specs.Stages.{Next, Fits, Applies, change_of, cleared_by, reached, retried}
 use Rattle.melt_core.specs.Changed.{CanProbe, HasEntered, probed_place, probed_word, with_call}
-use Rattle.melt_core.specs.Advances.{Asks, AdvancesOver, MayMove}
+use Rattle.melt_core.specs.Advances.{Asks, AdvancesOver, MayMakeEvent}
 use Rattle.melt_core.specs.Views.{View, Standing, Counts, maps, state, stage_of, rest_of, claimed_in, numbers_of}
 use Rattle.melt_core.specs.Views.{maps_of, base_in}
 use Rattle.melt_core.proofs.Asked.{call_at, fits_at, inside, known_so}
@@ -60,7 +60,7 @@ pub copied_within : (disk : OnDisk) {v : View} {t : ℕ} {o : Op} {a : Activatio
 copied_within disk {v} {t} {o} {a} is = (copied_known disk false is is.asks.stands).1
 
 -- the forwarding word can be read
-pub copied_probes : {v : View} {t : ℕ} {o : Op} {a : Activation} → (may : MayMove v t o)
+pub copied_probes : {v : View} {t : ℕ} {o : Op} {a : Activation} → (may : MayMakeEvent v t o)
     → stage_of v t ≡ Some (Copied a) → CanProbe v a.search
 copied_probes {v} {t} {o} {a} may at = record {
   disk = may.disk;
@@ -69,7 +69,7 @@ copied_probes {v} {t} {o} {a} may at = record {
 }
 
 -- and where it sends another home, the search fits that has read it
-pub copied_few : {v : View} {t : ℕ} {o : Op} {a : Activation} → (may : MayMove v t o)
+pub copied_few : {v : View} {t : ℕ} {o : Op} {a : Activation} → (may : MayMakeEvent v t o)
     → stage_of v t ≡ Some (Copied a) → SendsAnother (probed_word v a.search) a.search.home
     → a.search.tried + 1 < 4294967296
 copied_few {v} {t} {o} {a} may at another =
@@ -125,7 +125,7 @@ taken_advances disk {v} {t} {o} {a} is another =
     let known = copied_known disk told is s in
     copy_more told (maps v) (state disk v) (rest_of v t) a known.0 known.1 another)
 
--- the view behind the exchange that was won, where the names are these
+-- the view after the exchange that was won, where the names are these
 abbrev pub committed : View → Option heap.Names → ℕ → Op → Activation → View
 committed v names t o a = with_call (record v {
   forward = slice_set v.forward (probed_place v a.search) (forward_word a.search.home a.address);
@@ -196,7 +196,7 @@ won_header disk {v} {names} {t} {o} {a} won =
       word = copy_header (maps v) (state disk v) a.address a.search.home a.shape (rest_of v t) known.0.copy;
     }
 
--- what the load knows behind it
+-- what the load knows after it
 won_known : (disk : OnDisk) {v : View} {names : Option heap.Names} {t : ℕ} {o : Op} {a : Activation} {number : ℕ}
     (told : Bool) → Won disk v names t o a number → Standing told disk v
     → Known told (maps_of names) (state disk (committed v names t o a)) (rest_of v t) (reached a.search a.address)

@@ -69,9 +69,9 @@ module _ (maps : Maps) (s : State) where
       let below : j < shape.nums = is.below in
       record { named = o.named; starts = o.starts; within = omega arith; is = omega arith }
 
-  -- behind the header of an object no object stands
-  behind_not_named : (b m q y : ℕ) (k : Header) → FormedWords maps s → PartAt maps s b m q y k → 1 ≤ q → NotNamed maps y
-  behind_not_named b m q y k formed part behind a n named = λ same.
+  -- after the header of an object no object stands
+  after_not_named : (b m q y : ℕ) (k : Header) → FormedWords maps s → PartAt maps s b m q y k → 1 ≤ q → NotNamed maps y
+  after_not_named b m q y k formed part after a n named = λ same.
       let object = formed.objects a n named in
       parts_differ maps s formed (head_part maps s a n object.0 named object.1.starts) part
       (λ (first : q ≡ 0). omega arith) (sym same)
@@ -79,13 +79,13 @@ module _ (maps : Maps) (s : State) where
   slot_not_named : (object i : ℕ) → FormedWords maps s → IsPlace maps s (Field object i) →
       NotNamed maps (object + 2 + i)
   slot_not_named object i formed is =
-      behind_not_named object is.1.number (2 + i) (object + 2 + i) is.1.header formed (place_part object i is)
+      after_not_named object is.1.number (2 + i) (object + 2 + i) is.1.header formed (place_part object i is)
       (omega arith)
 
   number_not_named : (object n j : ℕ) (shape : Shape) → FormedWords maps s → IsNumberWord maps s object shape n j →
       NotNamed maps (number_place object shape j)
   number_not_named object n j shape formed is =
-      behind_not_named object is.object_is.number (2 + shape.refs + j) (number_place object shape j)
+      after_not_named object is.object_is.number (2 + shape.refs + j) (number_place object shape j)
       is.object_is.header formed (number_word_part object n j shape is) (omega arith)
 
   -- a number word is no slot

@@ -15,7 +15,7 @@ use Rattle.melt_core.specs.Known.{Known}
 use Rattle.melt_core.specs.Events.{Event, quiet}
 use Rattle.melt_core.specs.Stages.{Next, Nothing, Shares, change_of, cleared_by, Applies, Fits}
 use Rattle.melt_core.specs.Changed.{with_call}
-use Rattle.melt_core.specs.Advances.{Asks, AdvancesOver, AdvancesWhere, Goes, KeepsOwn}
+use Rattle.melt_core.specs.Advances.{Asks, AdvancesOver, AdvancesWhere, CallGoesOn, KeepsOwn}
 use Rattle.melt_core.specs.Views.{View, maps, state, call_of, stage_in, stage_of, rest_of, claimed_in, Standing}
 use Rattle.melt_core.proofs.Claims.{claims_next}
 use Rattle.melt_core.proofs.Asked.{inside, next_fits, still_clears}
@@ -24,11 +24,11 @@ use Rattle.melt_core.proofs.Standing.{KeepsRests, advances_where, call_here, sam
 use Rattle.melt_core.proofs.Plain.{Plain, plain}
 use Rattle.melt_core.proofs.Regions.{nearer_in}
 
--- the call goes on, by this call behind the event
+-- the call goes on, by this call after the event
 pub goes : (disk : OnDisk) (v w : View) (t : ℕ) (o : Op) (stage : Stage) → Asks disk v t o
     → Next (maps v) (state disk v) (register_in v.held t) v.stop o (stage_of v t) stage
     → w.calls ≡ set v.calls t (Some (record { op = o; stage = stage })) → KeepsOwn v w t → w.stop ≡ v.stop
-    → Goes disk v w t o
+    → CallGoesOn disk v w t o
 goes disk v w t o stage asks next calls own stop = record {
   stage = stage;
   next = next;
@@ -38,8 +38,8 @@ goes disk v w t o stage asks next calls own stop = record {
   stop = stop;
 }
 
--- What an event shows after which the call goes on at this stage. Where something is told behind it, so much is.
-pub record GoesOn (tells : Type 0) (disk : OnDisk) (v w : View) (t : ℕ) (o : Op) (stage : Stage) : Type 0 where
+-- What an event shows after which the call goes on at this stage. Where something is told after it, so much is.
+pub record GoesOnAt (tells : Type 0) (disk : OnDisk) (v w : View) (t : ℕ) (o : Op) (stage : Stage) : Type 0 where
   pub event : (told : Bool) → Standing told disk v
       → Event told v.log (maps v) (maps w) (state disk v) (state disk w) no_region (cleared_by (stage_of v t)) None
   pub applies : Applies (maps v) (maps w) (state disk v) (state disk w)
@@ -51,13 +51,13 @@ pub record GoesOn (tells : Type 0) (disk : OnDisk) (v w : View) (t : ℕ) (o : O
       → Known told (maps w) (state disk w) (rest_of w t) stage
   pub unclaimed : claimed_in (Some (record { op = o; stage = stage })) ≡ 0
 
--- the view behind it, where the words are these, and so are those that threads read of records
+-- the view after it, where the words are these, and so are those that threads read of records
 abbrev pub gone_on : View → SpaceWords → List (List ℕ) → ℕ → Op → Stage → View
 gone_on v space records t o stage =
     with_call (record v { space = space; records = records }) t (Some (record { op = o; stage = stage }))
 
 pub goes_on : {tells : Type 0} {disk : OnDisk} {v : View} (space : SpaceWords) (records : List (List ℕ)) {t : ℕ}
-    {o : Op} {stage : Stage} → Asks disk v t o → GoesOn tells disk v (gone_on v space records t o stage) t o stage
+    {o : Op} {stage : Stage} → Asks disk v t o → GoesOnAt tells disk v (gone_on v space records t o stage) t o stage
     → AdvancesWhere tells disk v (gone_on v space records t o stage) t o Going
 goes_on {tells} {disk} {v} space records {t} {o} {stage} asks is =
     let s : Standing false disk v = asks.stands in

@@ -1,4 +1,4 @@
--- The words of the objects that registers hold, where one register is looked at behind the other.
+-- The words of the objects that registers hold, where one register is looked at after the other.
 use Rattle.std.proofs.Common.{◌≡◌, ◌≢◌, ◌⊎◌, ℕ, ◌+◌, ◌*◌, ◌/◌, ◌%◌, ◌<◌, ◌≤◌, inl, inr, length, refl, sym}
 use Rattle.std.proofs.Common.{◌∙◌, ap, subst, arith}
 use Rattle.std.proofs.Math.ListN.{length-map}

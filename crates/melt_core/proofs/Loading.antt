@@ -41,7 +41,7 @@ use Rattle.melt_core.specs.Changed.{HoldsRef, HasRead, with_call, with_register,
 use Rattle.melt_core.specs.Advances.{Asks, AdvancesOver, HasRoomFor, Sets, InBounds}
 use Rattle.melt_core.specs.Views.{View, Standing, maps, state, stage_of, values_of, held_value, claimed_in, rest_of}
 use Rattle.melt_core.proofs.Asked.{fits_at, known_at, known_so}
-use Rattle.melt_core.proofs.Words.{same_behind, word_set, over}
+use Rattle.melt_core.proofs.Words.{same_after, word_set, over}
 use Rattle.melt_core.proofs.Evolving.{evolves_event}
 use Rattle.melt_core.proofs.Staying.{looked_stays, place_stays}
 use Rattle.melt_core.proofs.Going.{goes_on, go_advances}
@@ -54,9 +54,9 @@ use Rattle.melt_core.proofs.Objects.{stale_address}
 use Rattle.melt_core.proofs.Registers.{register_other, values_set}
 use Rattle.melt_core.proofs.Tasks.{load_is, gload_is}
 
--- the view behind a read: what the address stands for was read at the slot, and the register holds it
-abbrev pub behind : View → ℕ → Slot → ℕ → ℕ → View
-behind m t at dst address =
+-- the view after a read: what the address stands for was read at the slot, and the register holds it
+abbrev pub after_read : View → ℕ → Slot → ℕ → ℕ → View
+after_read m t at dst address =
     with_call (with_register (noted m (entry t (Read at (held_value m.names address)))) t dst address) t None
 
 -- What a load knows where it is answered: its place, and the address that it found there.
@@ -130,16 +130,16 @@ record Reads (disk : OnDisk) (v m : View) (t : ℕ) (o : Op) (stage : Stage) (pl
   pub is_slot : SlotAt (maps v) place at
   pub words : length m.space.list ≡ length v.space.list
   pub event : (told : Bool) → Standing told disk v
-      → Event told v.log (maps v) (maps v) (state disk v) (state disk (behind m t at dst address)) no_region 0
+      → Event told v.log (maps v) (maps v) (state disk v) (state disk (after_read m t at dst address)) no_region 0
       (Some (Read at (held_value v.names address)))
-  pub applies : Applies (maps v) (maps v) (state disk v) (state disk (behind m t at dst address))
+  pub applies : Applies (maps v) (maps v) (state disk v) (state disk (after_read m t at dst address))
       (change_of (state disk v) (register_in v.held t) (rest_of v t) (Some stage))
   pub clean : IsTagged (word_in (state disk m) place) → ⊥
 
 read_advances : {disk : OnDisk} {v : View} (space : SpaceWords) (globals : List ℕ) {t : ℕ} {o : Op} {stage : Stage}
     {place : Place} {at : Slot} {dst address : ℕ} → Asks disk v t o
     → Reads disk v (over v space globals) t o stage place at dst address
-    → AdvancesOver disk v (behind (over v space globals) t at dst address) t o
+    → AdvancesOver disk v (after_read (over v space globals) t at dst address) t o
     (Answered (found_in (held_value v.names address)))
 read_advances {disk} {v} space globals {t} {o} {place} {at} {dst} {address} asks is =
     let m : View = over v space globals in
@@ -162,7 +162,8 @@ read_advances {disk} {v} space globals {t} {o} {place} {at} {dst} {address} asks
     })
   where
     same_word : (m : View) (t : ℕ) (at : Slot) (dst address : ℕ) (place : Place)
-        → IsTagged (word_in (state disk (behind m t at dst address)) place) → IsTagged (word_in (state disk m) place)
+        → IsTagged (word_in (state disk (after_read m t at dst address)) place) → IsTagged (word_in (state disk m)
+        place)
     same_word m t at dst address (Field object i) tagged = tagged
     same_word m t at dst address (Global g) tagged = tagged
 
@@ -216,11 +217,11 @@ finds_clean {disk} {v} t o place dst {a} s loads there holds = record {
 pub quiet_read : {disk : OnDisk} {told : Bool} {v : View} {t : ℕ} {o : Op} {place : Place} (at : Slot) {dst address : ℕ}
     → Standing told disk v → Finds disk v t o place dst address → SlotAt (maps v) place at
     → (IsTagged (word_in (state disk v) place) → ⊥)
-    → Event told v.log (maps v) (maps v) (state disk v) (state disk (behind v t at dst address)) no_region 0
+    → Event told v.log (maps v) (maps v) (state disk v) (state disk (after_read v t at dst address)) no_region 0
     (Some (Read at (held_value v.names address)))
 quiet_read {disk} {v} {t} {place} at {dst} {address} s finds slot clean =
     reads_place place at (held_value v.names address) refl
-    (same_behind disk v (behind v t at dst address).held) finds.there clean
+    (same_after disk v (after_read v t at dst address).held) finds.there clean
     (λ is. record { slot = slot; last = finds.value (subst (λ (b : Bool). Standing b disk v) is s) at slot })
 
 -- a stale address has a tag
@@ -437,7 +438,7 @@ pub look_reads : {disk : OnDisk} {v w : View} {t : ℕ} {o : Op} {place : Place}
     → AdvancesOver disk v w t o result
 look_reads {disk} {v} {w} {t} {o} {place} {dst} {address} asks looks finds clean read =
     let stage = look_stage disk v t o place dst asks.stands finds.there looks clean in
-    subst (λ (r : StepResult). AdvancesOver disk v w t o r) (sym read.told)
+    subst (λ (r : StepResult). AdvancesOver disk v w t o r) (sym read.answered)
     (subst (λ (x : View). AdvancesOver disk v x t o (Answered (found_in (held_value v.names address)))) (sym read.is)
     (read_advances v.space v.globals asks (record {
       ends = stage.1;
@@ -445,9 +446,9 @@ look_reads {disk} {v} {w} {t} {o} {place} {dst} {address} asks looks finds clean
       is_slot = read.is_slot;
       words = refl;
       event = λ told s. quiet_read read.slot s finds read.is_slot clean;
-      applies = subst (Applies (maps v) (maps v) (state disk v) (state disk (behind v t read.slot dst address)))
+      applies = subst (Applies (maps v) (maps v) (state disk v) (state disk (after_read v t read.slot dst address)))
           (sym stage.2)
-          (refl, same_behind disk v (behind v t read.slot dst address).held);
+          (refl, same_after disk v (after_read v t read.slot dst address).held);
       clean = clean;
     })))
 
@@ -457,7 +458,7 @@ pub record IsCleared (disk : OnDisk) (v : View) (t : ℕ) (o : Op) (place : Plac
     pub asks : Asks disk v t o
     pub at : stage_of v t ≡ Some (Cleared place found target dst)
 
--- it has no event behind it
+-- it has no event after it
 cleared_ends : (disk : OnDisk) {v : View} {t : ℕ} {o : Op} {place : Place} {found : Ref} {target dst : ℕ}
     → IsCleared disk v t o place found target dst
     → Ends disk v t o (Cleared place found target dst)
@@ -484,7 +485,7 @@ pub untag_lost : (disk : OnDisk) {v w : View} {t : ℕ} {o : Op} {place : Place}
     → (IsTagged (word_in (state disk v) place) → ⊥)
     → HasRead v w t place dst address result → AdvancesOver disk v w t o result
 untag_lost disk {v} {w} {t} {o} {place} {found} {target} {dst} {address} is finds clean read =
-    subst (λ (r : StepResult). AdvancesOver disk v w t o r) (sym read.told)
+    subst (λ (r : StepResult). AdvancesOver disk v w t o r) (sym read.answered)
     (subst (λ (x : View). AdvancesOver disk v x t o (Answered (found_in (held_value v.names address)))) (sym read.is)
     (read_advances v.space v.globals is.asks (record {
       ends = cleared_ends disk is;
@@ -502,7 +503,7 @@ untag_lost disk {v} {w} {t} {o} {place} {found} {target} {dst} {address} is find
                 tag = (cleared_known disk is).0.tag;
                 is = still;
               })),
-          λ differ. same_behind disk v (behind v t read.slot dst address).held,
+          λ differ. same_after disk v (after_read v t read.slot dst address).held,
         ),
       );
       clean = clean;
@@ -558,7 +559,7 @@ untag_event disk {v} {t} {o} {place} {found} {target} {dst} told m at is s slot 
     (λ tells. record { slot = slot; last = finds.value (subst (λ (b : Bool). Standing b disk v) tells s) at slot })
     changes
 
--- the place is one behind it
+-- the place is one after it
 pub untag_place : (disk : OnDisk) {v : View} {t : ℕ} {o : Op} {place : Place} {found : Ref} {target dst : ℕ}
     (space : SpaceWords)
     (globals : List ℕ) → IsCleared disk v t o place found target dst → IsTagged (word_in (state disk v) place)
@@ -592,17 +593,17 @@ pub untag_won : (disk : OnDisk) {v w : View} {t : ℕ} {o : Op} {place : Place} 
     → HasRead (over v space globals) w t place dst target result → AdvancesOver disk v w t o result
 untag_won disk {v} {w} {t} {o} {place} {found} {target} {dst} space globals is tagged changes read =
     let m : View = over v space globals in
-    let after : PlaceChanges (state disk v) (state disk (behind m t read.slot dst target)) place
+    let after : PlaceChanges (state disk v) (state disk (after_read m t read.slot dst target)) place
     (ref_word (Clean target)) =
-    behind_changes place (ref_word (Clean target)) changes in
-    subst (λ (r : StepResult). AdvancesOver disk v w t o r) (sym read.told)
+    after_changes place (ref_word (Clean target)) changes in
+    subst (λ (r : StepResult). AdvancesOver disk v w t o r) (sym read.answered)
     (subst (λ (y : View). AdvancesOver disk v y t o (Answered (found_in (held_value v.names target)))) (sym read.is)
     (read_advances space globals is.asks (record {
       ends = cleared_ends disk is;
       finds = untag_finds disk is tagged;
       is_slot = read.is_slot;
       words = changed_size disk v m place (ref_word (Clean target)) changes;
-      event = λ told s. untag_event disk told (behind m t read.slot dst target) read.slot is s read.is_slot tagged
+      event = λ told s. untag_event disk told (after_read m t read.slot dst target) read.slot is s read.is_slot tagged
           after;
       applies = (refl, (λ still. after, λ differ. absurd (differ (untag_is disk is tagged))));
       clean = λ later. tagged_is (word_in (state disk m) place) (Clean target)
@@ -612,11 +613,11 @@ untag_won disk {v} {w} {t} {o} {place} {found} {target} {dst} space globals is t
           }) later;
     })))
   where
-    -- registers aside, the view behind a read is that before it
-    behind_changes : (place : Place) (word : ℕ)
+    -- registers aside, the view after a read is that before it
+    after_changes : (place : Place) (word : ℕ)
         → PlaceChanges (state disk v) (state disk (over v space globals)) place word
-        → PlaceChanges (state disk v) (state disk (behind (over v space globals) t read.slot dst target)) place word
-    behind_changes (Field object i) word changes = record {
+        → PlaceChanges (state disk v) (state disk (after_read (over v space globals) t read.slot dst target)) place word
+    after_changes (Field object i) word changes = record {
       base = changes.base;
       free = changes.free;
       here = changes.here;
@@ -624,7 +625,7 @@ untag_won disk {v} {w} {t} {o} {place} {found} {target} {dst} space globals is t
       global = changes.global;
       forward = changes.forward;
     }
-    behind_changes (Global g) word changes = record {
+    after_changes (Global g) word changes = record {
       base = changes.base;
       free = changes.free;
       word_stays = changes.word_stays;

@@ -64,7 +64,7 @@ use Rattle.melt_core.proofs.Regions.{apart_sym, no_region_apart, claimed_owned, 
 use Rattle.melt_core.proofs.Standing.{Happens, Made, advances, call_here, kept_own, same_rests, values_stay}
 use Rattle.melt_core.proofs.Tasks.{LoadsNothing, new_is, no_load}
 
--- the view behind a claim of so many words
+-- the view after a claim of so many words
 abbrev pub claiming : View → ℕ → ℕ → Call → View
 claiming v need t call = with_call (record v { free = v.free + need }) t (Some call)
 
@@ -327,7 +327,7 @@ claimed_known {disk} {v} {t} {o} {address} {stored} {dst} {shape} asks at =
     known_at disk v t o (Claimed address shape stored dst) asks
     at
 
--- A word behind the header was stored.
+-- A word after the header was stored.
 pub store_zero_advances : {disk : OnDisk} {v : View} {space : SpaceWords} {t : ℕ} {o : Op} {address stored dst : ℕ}
     {shape : Shape} → Asks disk v t o → stage_of v t ≡ Some (Claimed address shape stored dst)
     → stored + 1 < cost_of shape → SetsWord v.space space (address + 1 + stored) 0
@@ -378,7 +378,7 @@ lack_advances disk v t need o asks lacks =
       stop = refl;
     })
 
--- the view behind the publication of an object
+-- the view after the publication of an object
 abbrev pub published : View → SpaceWords → Option heap.Names → ℕ → Shape → ℕ → ℕ → View
 published v space names t shape dst address =
     with_call (with_register (noted (record v { space = space; names = names; made = v.made + 1 })

@@ -104,7 +104,7 @@ pub tagged_is : (word : ℕ) (r : Ref) → HoldsRef word r → IsTagged word →
 tagged_is word r holds tagged =
     subst HasTag (same_ref tagged.reference r tagged.in_range holds.in_range (sym tagged.is ∙ holds.is)) tagged.tag
 
--- a number behind the tag of a stale address is an address
+-- a number after the tag of a stale address is an address
 -- a stale address or a home has a tag
 pub either_tagged : (word : ℕ) (r : Ref) → HoldsRef word r
     → ((a : ℕ) × (r ≡ Stale a)) ⊎ ((home : ℕ) × (r ≡ Disk home)) → IsTagged word

@@ -39,10 +39,10 @@ contains_or_not (x ∷ xs) n = elim (cases_eq x n) [
     not_first x xs n differs none (zero, below, is) = differs is
     not_first x xs n differs none (suc k, below, is) = none (k, omega arith, is)
 
--- the first home is that of the object, or one behind it is
-first_or_behind : (maps : Maps) (first : Home) (homes : List Home) (n : ℕ) → IsHomeOf maps (first ∷ homes) n
+-- the first home is that of the object, or one after it is
+first_or_after : (maps : Maps) (first : Home) (homes : List Home) (n : ℕ) → IsHomeOf maps (first ∷ homes) n
     → (maps.home first.at ≡ Some n) ⊎ IsHomeOf maps homes n
-first_or_behind maps first homes n of = at_index of.reserved.index of.reserved.is
+first_or_after maps first homes n of = at_index of.reserved.index of.reserved.is
   where
     at_index : (index : ℕ) → slice_get (first ∷ homes) index ≡ Some (record { at = of.home; shape = of.reserved_for })
         → (maps.home first.at ≡ Some n) ⊎ IsHomeOf maps homes n
@@ -65,9 +65,9 @@ here maps first homes n is = record {
   of_object = is;
 }
 
-behind : (maps : Maps) (first : Home) (homes : List Home) (n : ℕ) → IsHomeOf maps homes n
+home_of_rest : (maps : Maps) (first : Home) (homes : List Home) (n : ℕ) → IsHomeOf maps homes n
     → IsHomeOf maps (first ∷ homes) n
-behind maps first homes n of = record {
+home_of_rest maps first homes n of = record {
   home = of.home;
   reserved_for = of.reserved_for;
   reserved = record { index = suc of.reserved.index; is = of.reserved.is };
@@ -95,10 +95,10 @@ module _ (cost : ℕ → ℕ) (maps : Maps) (Is : ℕ → Type 0) (total : ℕ) 
     all = rest.all;
     adds_up =
         CostsSum-same cost (OrHome maps Is homes) (OrHome maps Is (first ∷ homes)) rest.all (λ n. (
-          λ is. elim is [ inl x ↦ inl x | inr of ↦ inr (behind maps first homes n of) ],
+          λ is. elim is [ inl x ↦ inl x | inr of ↦ inr (home_of_rest maps first homes n of) ],
           λ is. elim is [
             | inl x ↦ inl x
-            | inr of ↦ elim (first_or_behind maps first homes n of) [ inl at ↦ has n at | inr x ↦ inr x ]
+            | inr of ↦ elim (first_or_after maps first homes n of) [ inl at ↦ has n at | inr x ↦ inr x ]
           ],
         )) rest.adds_up;
     within = omega (arith, rest.within);
@@ -115,12 +115,12 @@ module _ (cost : ℕ → ℕ) (maps : Maps) (Is : ℕ → Type 0) (total : ℕ) 
         CostsSum-same cost (λ m. OrHome maps Is homes m ⊎ (m ≡ n)) (OrHome maps Is (first ∷ homes))
         (rest.all + cost n) (λ m. (
           λ is. elim is [
-            | inl old ↦ elim old [ inl x ↦ inl x | inr of ↦ inr (behind maps first homes m of) ]
+            | inl old ↦ elim old [ inl x ↦ inl x | inr of ↦ inr (home_of_rest maps first homes m of) ]
             | inr same ↦ inr (here maps first homes m (at ∙ ap Some (sym same)))
           ],
           λ is. elim is [
             | inl x ↦ inl (inl x)
-            | inr of ↦ elim (first_or_behind maps first homes m of) [
+            | inr of ↦ elim (first_or_after maps first homes m of) [
               | inl of_first ↦ inr (same_Some m n (sym of_first ∙ at))
               | inr x ↦ inl (inr x)
             ]

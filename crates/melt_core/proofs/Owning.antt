@@ -56,7 +56,7 @@ in_first : (a b : Region) (at k : ℕ) → Apart a b → a.at ≤ at → at < a.
 in_first a b at k apart from to from_b to_b = λ same.
     let differ : 0 < a.words → 0 < b.words → a.at ≢ b.at = apart.differ in
     let before : a.at < b.at → a.at + a.words ≤ b.at = apart.before in
-    let behind : b.at < a.at → b.at + b.words ≤ a.at = apart.behind in
+    let after : b.at < a.at → b.at + b.words ≤ a.at = apart.after in
     grind arith
 
 -- where a place changes, the words of a region stay

@@ -1,4 +1,4 @@
--- Events that leave the names, the first free place and the stop word, and whose thread owns no words before and behind
+-- Events that leave the names, the first free place and the stop word, and whose thread owns no words before and after
 -- them. What each of these shows is less. What the thread reads of a record may differ.
 use Rattle.std.proofs.Common.{◌≡◌, ◌≢◌, ℕ, ◌<◌, ◌≤◌, inl, List, [], ◌∷◌, length, refl, sym, ◌∙◌, ap, subst, arith}
 use Rattle.std.proofs.Math.ListN.{set}
@@ -44,7 +44,7 @@ OnlyMoves v w t act after = w ≡ record v {
   log = with_entry t v.log act;
 }
 
--- Where something is told behind the event, so much is.
+-- Where something is told after the event, so much is.
 pub record Plain (tells : Type 0) (disk : OnDisk) (v w : View) (t : ℕ) (cleared : ℕ) (act : Option Act)
     (after : Option Call) : Type 0 where
   pub event : (told : Bool) → Standing told disk v

@@ -23,7 +23,7 @@ use Rattle.melt_core.specs.declared.call.Stage.TheVariants.{Searching, Missed, H
 use Rattle.melt_core.specs.declared.call.Stage.TheVariants.{Retrying, LackingCopy}
 use Rattle.melt_core.specs.Stages.{Next, Probes, ReadAs, ReadsAt, NeedsNoRead, reads_left, body_stage}
 use Rattle.melt_core.specs.Stages.{retried, reached}
-use Rattle.melt_core.specs.Advances.{Asks, AdvancesOver, MayAdvance, Moves, Uses, StepOutcome, reads_after}
+use Rattle.melt_core.specs.Advances.{Asks, AdvancesOver, MayAdvance, MakesEvent, Uses, StepOutcome, reads_after}
 use Rattle.melt_core.specs.Views.{View, maps, state, call_of, stage_in, stage_of}
 use Rattle.melt_core.proofs.Asked.{inside}
 
@@ -64,7 +64,7 @@ body_reads : (search : Search) (shape : Shape) (whole : Bool)
 body_reads search shape true = omega arith
 body_reads search shape false = omega arith
 
--- behind a head at most one read is left
+-- after a head at most one read is left
 pub head_reads : (s : State) (search : Search) (shape : Shape) (kind : Kind) (next : Stage)
     → ReadAs s search shape kind next → reads_left (Some next) ≤ 1
 head_reads s search shape Body next is =
@@ -159,9 +159,9 @@ reads_nothing (Some (Copied a)) home none reads = reads
 reads_nothing (Some (Retrying a)) home none reads = reads
 reads_nothing (Some (LackingCopy search shape)) home none reads = reads
 
-reads_behind : (disk : OnDisk) (v w : View) (t : ℕ) (o : Op) (result : StepResult) → Asks disk v t o
+reads_past : (disk : OnDisk) (v w : View) (t : ℕ) (o : Op) (result : StepResult) → Asks disk v t o
     → StepOutcome (Unit {0}) disk v w t o result → reads_after result (stage_of w t) ≤ reads_left (stage_of v t)
-reads_behind disk v w t o Going asks is =
+reads_past disk v w t o Going asks is =
     let at : reads_left (stage_of w t) ≡ reads_left (Some is.stage) =
     ap (λ (c : Option Call). reads_left (stage_in c)) is.call in
     omega (
@@ -169,11 +169,11 @@ reads_behind disk v w t o Going asks is =
       at,
       reads_next disk v t o (stage_of v t) is.stage is.next,
     )
-reads_behind disk v w t o (Answered reply) asks is = omega arith
-reads_behind disk v w t o (Refused why) asks is = omega arith
+reads_past disk v w t o (Answered reply) asks is = omega arith
+reads_past disk v w t o (Refused why) asks is = omega arith
 
 module _ (end : ℕ) (v w : View) (t : ℕ) (o : Op) (result : StepResult) (may : MayAdvance end v t o)
-    (moves : Moves v w t o result) (none : NeedsNoRead (stage_of v t)) where
+    (moves : MakesEvent v w t o result) (none : NeedsNoRead (stage_of v t)) where
   over_here : AdvancesOver may.disk v w t o result
   over_here = moves.over may.disk may.asks.stands
 
@@ -194,7 +194,7 @@ module _ (end : ℕ) (v w : View) (t : ℕ) (o : Op) (result : StepResult) (may 
   pub uses_nothing : (faults reads : ℕ) → Uses v w t result faults faults reads reads
   uses_nothing faults reads = record {
     one = omega arith;
-    few = omega (arith, reads_behind may.disk v w t o result may.asks over_here.outcome);
+    few = omega (arith, reads_past may.disk v w t o result may.asks over_here.outcome);
     fault = λ is. absurd (no_fault is);
     count = omega arith;
   }

@@ -59,19 +59,19 @@ pub ok_of : {A E : Type 0} (result : Result A E) (P : Type 0) {failed : Bool} �
 ok_of (Ok a) P is same none = is
 ok_of (Err e) P is same none = absurd (cc)
 
--- a stage behind a head is one behind some head that was read
-pub behind_ok : (v : View) (search : Search) {end first second : ℕ} (result : Result Stage Damaged) {head : Head}
+-- a stage after a head is one after some head that was read
+pub after_ok : (v : View) (search : Search) {end first second : ℕ} (result : Result Stage Damaged) {head : Head}
     → IsHead search.home end first second head
     → ((disk : OnDisk) → IfOk result (ReadAs (state disk v) search head.shape head.kind))
     → IfOk result (λ stage. (h : Head) × IsHead search.home end first second h × ((disk : OnDisk) → ReadAs (state disk
     v) search h.shape h.kind stage))
-behind_ok v search (Ok stage) {head} read is = (head, read, is)
-behind_ok v search (Err damaged) {head} read is = tt
+after_ok v search (Ok stage) {head} read is = (head, read, is)
+after_ok v search (Err damaged) {head} read is = tt
 
-pub behind_err : {A E : Type 0} {P Q : E → Type 0} (result : Result A E) → ((e : E) → P e → Q e) → IfErr result P
+pub after_err : {A E : Type 0} {P Q : E → Type 0} (result : Result A E) → ((e : E) → P e → Q e) → IfErr result P
     → IfErr result Q
-behind_err (Ok a) so is = tt
-behind_err (Err e) so is = so e is
+after_err (Ok a) so is = tt
+after_err (Err e) so is = so e is
 
 -- a refusal names one damage
 pub is_damaged : (result : StepResult) (one other : Damaged) → result ≡ Refused (refusal.Damaged one)
@@ -218,7 +218,7 @@ module _ (end : ℕ) (image : Option (List ℕ)) (v : View) (t : ℕ) (o : Op) (
       on_disk = λ is_told. stands_told (record { shape = shape; kind = Body }) read (tell is_told);
     }
 
-    -- what is known behind the head of a Body, with slots or numbers or without
+    -- what is known after the head of a Body, with slots or numbers or without
     known_body : (told : Bool) → (told ≡ true → TellsDisk image disk) → Standing told disk v → (shape : Shape)
         → IsHead search.home end first second (record { shape = shape; kind = Body })
         → Known told (maps v) (state disk v) (rest_of v t) (body_stage search shape)
@@ -259,12 +259,12 @@ module _ (end : ℕ) (image : Option (List ℕ)) (v : View) (t : ℕ) (o : Op) (
           },
         )
 
-    known_behind : (told : Bool) → (told ≡ true → TellsDisk image disk) → Standing told disk v → (shape : Shape)
+    known_after : (told : Bool) → (told ≡ true → TellsDisk image disk) → Standing told disk v → (shape : Shape)
         → (kind : Kind) → IsHead search.home end first second (record { shape = shape; kind = kind }) → (stage : Stage)
         → ReadAs (state disk v) search shape kind stage → Known told (maps v) (state disk v) (rest_of v t) stage
-    known_behind told tell stands shape Body read stage goes =
+    known_after told tell stands shape Body read stage goes =
         subst (Known told (maps v) (state disk v) (rest_of v t)) (sym goes) (known_body told tell stands shape read)
-    known_behind told tell stands shape (Stub scion) read stage goes =
+    known_after told tell stands shape (Stub scion) read stage goes =
         subst (Known told (maps v) (state disk v) (rest_of v t)) (sym goes.2)
         (known_stub told stands scion goes.0 goes.1)
 
@@ -304,7 +304,7 @@ module _ (end : ℕ) (image : Option (List ℕ)) (v : View) (t : ℕ) (o : Op) (
         (from_missed disk v t search is.at).still (same_rests v v t refl)
         (subst (λ (g : Option Stage). Next (maps v) (state disk v) (register_in v.held t) v.stop o g stage) (sym is.at)
         (head.shape, head.kind, goes disk))
-        (λ told tell stands. known_behind disk ends told tell stands head.shape head.kind read stage (goes disk))
+        (λ told tell stands. known_after disk ends told tell stands head.shape head.kind read stage (goes disk))
         (unclaimed (state disk v) head.shape head.kind stage (goes disk));
   }
 
@@ -335,7 +335,7 @@ module _ (end : ℕ) (image : Option (List ℕ)) (v : View) (t : ℕ) (o : Op) (
     breaks = subst (λ (g : Option Stage). Breaks v.scions end g words damaged) (sym is.at) breaks;
   }
 
--- behind a head at most one read is left
+-- after a head at most one read is left
 pub head_uses : {disk : OnDisk} {v w : View} {t : ℕ} {o : Op} {search : Search} (stage : Stage) (head : Head)
     {faults faults_after reads reads_after_it : ℕ} → Asks disk v t o → stage_of v t ≡ Some (Missed search)
     → w ≡ with_call v t (Some (record { op = o; stage = stage }))
@@ -343,13 +343,13 @@ pub head_uses : {disk : OnDisk} {v w : View} {t : ℕ} {o : Op} {search : Search
     → Uses v w t Going faults faults_after reads reads_after_it
 head_uses {disk} {v} {w} {t} {o} {search} stage head asks at moves goes count one =
     let call : Call = record { op = o; stage = stage } in
-    let behind : reads_left (stage_of w t) ≡ reads_left (Some stage) =
+    let after : reads_left (stage_of w t) ≡ reads_left (Some stage) =
     ap (λ (c : Option Call). reads_left (stage_in c))
     (call_here v w t (Some call) (ap (λ (x : View). x.calls) moves) (inside disk v t o asks)) in
     let before : reads_left (stage_of v t) ≡ 2 = ap reads_left at in
     record {
       one = one;
-      few = omega (arith, one, behind, before, head_reads (state disk v) search head.shape head.kind stage goes);
+      few = omega (arith, one, after, before, head_reads (state disk v) search head.shape head.kind stage goes);
       fault = λ is. absurd (cc);
       count = count;
     }
@@ -377,14 +377,14 @@ head_fault {end} image {v} {t} {o} {search} {shape} may at = record {
       (search.home, lost disk v t search.home o asks from);
 }
 
--- The words behind the head of a Body were read, in an event of a call that read its head.
+-- The words after the head of a Body were read, in an event of a call that read its head.
 pub record ReadsRest (end : ℕ) (image : Option (List ℕ)) (v : View) (t : ℕ) (o : Op) (search : Search) (shape : Shape)
     (words : List ℕ) : Type 0 where
   pub may : MayAdvance end v t o
   pub at : stage_of v t ≡ Some (HeadRead search shape)
   pub read : IfSome image (λ told. words ≡ words_at told (search.home + 2) (shape.refs + shape.nums))
 
--- a Body has no more words behind its head than a buffer has room for
+-- a Body has no more words after its head than a buffer has room for
 pub rest_small : (end : ℕ) (v : View) (t : ℕ) (o : Op) (search : Search) (shape : Shape) → MayAdvance end v t o
     → stage_of v t ≡ Some (HeadRead search shape) → shape.refs + shape.nums ≤ max_rest
 rest_small end v t o search shape may at =

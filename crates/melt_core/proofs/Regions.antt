@@ -34,8 +34,8 @@ use Rattle.melt_core.specs.Advances.{InBounds, Continues, Asks}
 
 pub apart_sym : (a b : Region) → Apart a b → Apart b a
 apart_sym a b apart = record {
-  before = apart.behind;
-  behind = apart.before;
+  before = apart.after;
+  after = apart.before;
   differ = λ some_b some_a same. apart.differ some_a some_b (sym same);
 }
 
@@ -43,7 +43,7 @@ apart_sym a b apart = record {
 pub no_region_apart : (r : Region) → Apart no_region r
 no_region_apart r = record {
   before = λ less. omega arith;
-  behind = λ less. absurd (omega arith);
+  after = λ less. absurd (omega arith);
   differ = λ none. absurd (omega arith);
 }
 
@@ -63,7 +63,7 @@ claimed_owned maps s t words formed first within moves = record {
       let below : b + cost_of object.0.shape ≤ s.free = object.1.below in
       record {
         before = λ less. omega arith;
-        behind = λ less. absurd (omega arith);
+        after = λ less. absurd (omega arith);
         differ = λ some_b some. omega arith;
       };
 }
@@ -75,7 +75,7 @@ claimed_apart maps s words r owns =
     let below : r.at + r.words ≤ s.free = owns.below in
     record {
       before = λ less. omega arith;
-      behind = λ less. absurd (omega arith);
+      after = λ less. absurd (omega arith);
       differ = λ some_r some. omega arith;
     }
 

@@ -41,7 +41,7 @@ use Rattle.melt_core.specs.Changed.{stopped}
 use Rattle.melt_core.proofs.Claims.{bounded_stop}
 use Rattle.melt_core.proofs.Nameless.{names_none}
 use Rattle.melt_core.proofs.Values.{get_or_replicate}
-use Rattle.melt_core.proofs.Words.{same_behind}
+use Rattle.melt_core.proofs.Words.{same_after}
 use Rattle.melt_core.proofs.Registers.{registers_set, registers_other}
 use Rattle.melt_scion.specs.Changes.{FreeMoves, SameWords}
 use Rattle.melt_scion.proofs.Staying.{free_shifts}
@@ -166,7 +166,7 @@ dropped v t within none = record {
                     (sym (registers_other v.held t u (replicate 16 0) other)) (s.registers u r)
               ]);
           known = λ u c is. known_words told (maps v) (state disk v) (state disk w) (rest_of v u) c.stage
-              (same_behind disk v w.held) s.holds.formed (s.known u c is);
+              (same_after disk v w.held) s.holds.formed (s.known u c is);
           fits = λ u c is. elim (cases_eq u t) [
             | inl same ↦ absurd (let e : None ≡ Some c = sym none ∙ (ap (call_of v) (sym same) ∙ is) in cc)
             | inr other ↦ subst (λ (regs : List ℕ). Fits (slice_index regs) c.op c.stage)
@@ -299,7 +299,7 @@ names_new false {words} heap is_new =
 pub history_new : (stored : Bool) {threads entries : ℕ} (rest : Rest) → IsNewRest threads entries rest
     → history_in stored rest ≡ []
 history_new true rest is_new = is_new.history
-history_new false rest is_new = is_new.told
+history_new false rest is_new = is_new.shadow_log
 
 -- before the first event
 pub start_at_rest : (told : Bool) {named : Bool} {words globals forward threads entries : ℕ} {heap : Heap} {rest : Rest}

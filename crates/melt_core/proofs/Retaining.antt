@@ -1,4 +1,4 @@
--- Events behind which a call goes on with the words that it owns.
+-- Events after which a call goes on with the words that it owns.
 use Rattle.std.proofs.Common.{◌≡◌, ◌≢◌, ◌⊎◌, ℕ, ◌<◌, inl, inr, length, refl, sym, ◌∙◌, ap, subst, arith}
 use Rattle.std.proofs.Math.ListN.{set}
 use Rattle.std.specs.Prelude.{Bool, false, Option, None, Some}
@@ -34,7 +34,7 @@ others_apart {disk} {v} {t} {o} {stage} asks at u d differ is =
     asks.stands.apart t u (record { op = o; stage = stage }) d (λ same. differ (sym same))
     (call_at disk v t o stage asks at) is
 
--- the view behind the event
+-- the view after the event
 abbrev pub retained : View → SpaceWords → ℕ → Op → Stage → View
 retained v space t o stage = with_call (record v { space = space }) t (Some (record { op = o; stage = stage }))
 

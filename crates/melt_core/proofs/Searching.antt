@@ -58,16 +58,16 @@ not_over tried count more = elim (cases_lt tried count) [
   | inr all ↦ absurd (more all)
 ]
 
--- the stage behind a forwarding word, by what that tells of the home
-abbrev pub behind_word : Search → Stage → Stage → Probe → Stage
-behind_word search empty another (At address) = reached search address
-behind_word search empty another Empty = empty
-behind_word search empty another Another = another
+-- the stage after a forwarding word, by what that tells of the home
+abbrev pub after_word : Search → Stage → Stage → Probe → Stage
+after_word search empty another (At address) = reached search address
+after_word search empty another Empty = empty
+after_word search empty another Another = another
 
 -- one of the three
 pub word_probes : (disk : OnDisk) (v : View) (search : Search) (empty another : Stage) (found : Probe)
     → search.tried < length v.forward → TellsOf v search found
-    → Probes (state disk v) search empty another (behind_word search empty another found)
+    → Probes (state disk v) search empty another (after_word search empty another found)
 word_probes disk v search empty another (At address) within tells = (within, inl (address, tells, refl))
 word_probes disk v search empty another Empty within tells = (within, inr (inl (tells, refl)))
 word_probes disk v search empty another Another within tells = (within, inr (inr (tells, refl)))
@@ -164,7 +164,7 @@ sent_known disk told v rest search address is sends =
 -- what is known of a search without a copy
 search_known : (disk : OnDisk) (told : Bool) (v : View) (rest : List ℕ) (search : Search) (found : Probe)
     → Reading disk told v search → TellsOf v search found
-    → Known told (maps v) (state disk v) rest (behind_word search (Missed search) (Searching (further search)) found)
+    → Known told (maps v) (state disk v) rest (after_word search (Missed search) (Searching (further search)) found)
 search_known disk told v rest search (At address) is tells = sent_known disk told v rest search address is tells
 search_known disk told v rest search Empty is tells = (
   record { searches = is.searches; within = is.within },
@@ -179,10 +179,10 @@ pub search_advances : (disk : OnDisk) (v : View) (t : ℕ) (o : Op) (search : Se
     → stage_of v t ≡ Some (Searching search) → search.tried < length v.forward → TellsOf v search found
     → AdvancesOver disk v (with_call v t (Some (record {
       op = o;
-      stage = behind_word search (Missed search) (Searching (further search)) found;
+      stage = after_word search (Missed search) (Searching (further search)) found;
     }))) t o Going
 search_advances disk v t o search found asks at within tells =
-    let next : Stage = behind_word search (Missed search) (Searching (further search)) found in
+    let next : Stage = after_word search (Missed search) (Searching (further search)) found in
     go_advances disk v t o next asks
     (subst (λ (g : Option Stage). change_of (state disk v) (register_in v.held t) (rest_of v t) g ≡ Nothing) (sym at)
     refl)
@@ -196,7 +196,7 @@ search_advances disk v t o search found asks at within tells =
   where
     owns_nothing : (search : Search) (o : Op) (found : Probe) → claimed_in (Some (record {
       op = o;
-      stage = behind_word search (Missed search) (Searching (further search)) found;
+      stage = after_word search (Missed search) (Searching (further search)) found;
     })) ≡ 0
     owns_nothing search o (At address) = refl
     owns_nothing search o Empty = refl
@@ -217,7 +217,7 @@ pub retry_advances : (disk : OnDisk) (v : View) (t : ℕ) (o : Op) (a : Activati
     → stage_of v t ≡ Some (Retrying a) → a.search.tried < length v.forward → TellsOf v a.search found
     → AdvancesOver disk v (with_call v t (Some (record {
       op = o;
-      stage = behind_word a.search (Copied a) (Retrying (retried a)) found;
+      stage = after_word a.search (Copied a) (Retrying (retried a)) found;
     }))) t o Going
 retry_advances disk v t o a (At address) asks at within tells =
     go_advances disk v t o (reached a.search address) asks

@@ -12,7 +12,7 @@ use Rattle.melt_core.specs.declared.call.Call.{Call}
 use Rattle.melt_core.specs.declared.call.Place.{Place}
 use Rattle.melt_core.specs.declared.call.Stage.{Stage}
 use Rattle.melt_core.specs.Answering.{entry}
-use Rattle.melt_core.specs.Advances.{Asks, MayMove, MayMoveFrom, Moves, MovesFrom}
+use Rattle.melt_core.specs.Advances.{Asks, MayMakeEvent, MayMakeEventFrom, MakesEvent, MakesEventFrom}
 use Rattle.melt_core.specs.Changed.{HasRead, noted, with_stage, with_call, with_register}
 use Rattle.melt_core.specs.Views.{View, held_value, stage_in, stage_of}
 use Rattle.melt_core.proofs.Asked.{call_at, inside}
@@ -41,14 +41,14 @@ staged_is {disk} {v} {t} {o} {stage} asks is =
     ap (λ (calls : List (Option Call)). record v { calls = calls })
     (ap (λ (c : Option Call). slice_set v.calls t c) (sym (call_at disk v t o stage asks is)) ∙ set_found v.calls t None)
 
-pub may_from : {v : View} {t : ℕ} {o : Op} {stage : Stage} → MayMove v t o → stage_of v t ≡ Some stage
-    → MayMoveFrom v t o stage
-may_from {t} {o} may is = subst (λ (u : View). MayMove u t o) (sym (staged_is may.asks is)) may
+pub may_from : {v : View} {t : ℕ} {o : Op} {stage : Stage} → MayMakeEvent v t o → stage_of v t ≡ Some stage
+    → MayMakeEventFrom v t o stage
+may_from {t} {o} may is = subst (λ (u : View). MayMakeEvent u t o) (sym (staged_is may.asks is)) may
 
-pub moves_from : {v w : View} {t : ℕ} {o : Op} {stage : Stage} {result : StepResult} → MayMove v t o
-    → stage_of v t ≡ Some stage → MovesFrom v w t o stage result → Moves v w t o result
+pub moves_from : {v w : View} {t : ℕ} {o : Op} {stage : Stage} {result : StepResult} → MayMakeEvent v t o
+    → stage_of v t ≡ Some stage → MakesEventFrom v w t o stage result → MakesEvent v w t o result
 moves_from {w} {t} {o} {result} may is moves =
-    subst (λ (u : View). Moves u w t o result) (staged_is may.asks is) moves
+    subst (λ (u : View). MakesEvent u w t o result) (staged_is may.asks is) moves
 
 -- the call is at the stage
 pub staged_stage : {disk : OnDisk} (v : View) (t : ℕ) (o : Op) (stage : Stage) → Asks disk (with_stage v t o stage) t o
@@ -72,7 +72,7 @@ pub read_from : {v w : View} {t : ℕ} (o : Op) (stage : Stage) {place : Place} 
 read_from {v} {t} o stage {dst} {address} read = record {
   slot = read.slot;
   is_slot = read.is_slot;
-  told = read.told;
+  answered = read.answered;
   is = read.is ∙ ap (λ (calls : List (Option Call)).
       record (with_register (noted v (entry t (Read read.slot (held_value v.names address)))) t dst address) { calls = calls })
       (sym (set_twice v.calls t (Some (record { op = o; stage = stage })) None));

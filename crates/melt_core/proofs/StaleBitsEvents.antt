@@ -29,7 +29,7 @@ use Rattle.melt_core.specs.declared.call.Stage.TheVariants.{Looked, Cleared, Cla
 use Rattle.melt_core.specs.Answering.{Answers, entry, with_entry}
 use Rattle.melt_core.specs.Known.{Known, word_in}
 use Rattle.melt_core.specs.Stages.{Applies, Next, Nothing, change_of, cleared_by, next_forward, reached}
-use Rattle.melt_core.specs.Advances.{Asks, AdvancesOver, Goes, IsAnswered, Refuses}
+use Rattle.melt_core.specs.Advances.{Asks, AdvancesOver, CallGoesOn, IsAnswered, Refuses}
 use Rattle.melt_core.specs.Views.{View, Standing, maps, state, stage_of, stage_in, rest_of}
 use Rattle.melt_core.specs.Views.{values_of}
 use Rattle.melt_core.specs.StaleBits.{Passed, HasNoBit, HasRegisters, Look, look_of, pending, Pending, sight}
@@ -98,7 +98,7 @@ module _ (disk : OnDisk) (u v w : View) (t : ℕ) (o : Op) (result : StepResult)
   same_word (Field object i) kept = kept.word (object + 2 + i)
   same_word (Global g) kept = kept.global g
 
-  module _ (tied : TiedTo u v) (goes : Goes disk v w t o) where
+  module _ (tied : TiedTo u v) (goes : CallGoesOn disk v w t o) where
     at_next : stage_of w t ≡ Some goes.stage
     at_next = ap stage_in goes.call
 

@@ -61,8 +61,8 @@ looked_grows h k q n looked =
       moment = looked.moment;
       from = looked.from;
       to = to;
-      behind = λ j e below at own.
-          looked.behind j e below (sym (slice_get-append_left h k j (omega arith)) ∙ at) own;
+      after = λ j e below at own.
+          looked.after j e below (sym (slice_get-append_left h k j (omega arith)) ∙ at) own;
       held = ap (λ (before : List Entry). last before looked.slot) (take-append-le looked.moment h k (omega arith))
           ∙ looked.held;
     }
@@ -129,7 +129,7 @@ moment_is h q n thread one looked =
           let at : slice_get h looked.moment ≡ Some e = slice_get-get_or h looked.moment _ (omega arith) in
           let mine : looked.entry.thread ≡ thread = one looked.place looked.entry (omega arith) looked.stands in
           let late : looked.moment < looked.moment =
-          looked.behind looked.moment e below at (one looked.moment e from at ∙ sym mine) in
+          looked.after looked.moment e below at (one looked.moment e from at ∙ sym mine) in
           absurd (omega arith)
     ]
 

@@ -91,12 +91,12 @@ module _ (old new : Maps) (names : (a n : ℕ) → old.address a ≡ Some n → 
   value_stays homes (Disk home) v is = ap (option_map value.Ref) (homes home) ∙ is
 
 -- no entry of the thread came in between
-behind_stays : (t : ℕ) {x : ℕ} (k moment : ℕ) (h : List Entry) (act : Option Act) {e : Entry} → (x ≢ t) ⊎ (act ≡ None)
+after_stays : (t : ℕ) {x : ℕ} (k moment : ℕ) (h : List Entry) (act : Option Act) {e : Entry} → (x ≢ t) ⊎ (act ≡ None)
     → ((j : ℕ) (y : Entry) → slice_get h j ≡ Some y → y.thread ≡ x → j < moment)
     → slice_get (with_entry t h act) k ≡ Some e → e.thread ≡ x → k < moment
-behind_stays t k moment h None {e} other behind at own = behind k e at own
-behind_stays t k moment h (Some act) {e} other behind at own = elim (last_place h (entry t act) k e at) [
-  | inl old ↦ behind k e old.1 own
+after_stays t k moment h None {e} other after at own = after k e at own
+after_stays t k moment h (Some act) {e} other after at own = elim (last_place h (entry t act) k e at) [
+  | inl old ↦ after k e old.1 own
   | inr new ↦ elim other [
     | inl differs ↦ absurd (differs (sym own ∙ sym (ap (λ (y : Entry). y.thread) new.1)))
     | inr none ↦ absurd (cc)
@@ -123,7 +123,7 @@ watched_stays t act {s} w {look} log names homes other is =
       moment = is.moment;
       from = is.from;
       to = omega (arith, to, longer t s.log act, ap length log);
-      behind = λ k e at own. behind_stays t k is.moment s.log act other is.behind
+      after = λ k e at own. after_stays t k is.moment s.log act other is.after
           (subst (λ (h : List Entry). slice_get h k ≡ Some e) log at) own;
       held = ap (λ (h : List Entry). last (take is.moment h) is.slot) log
           ∙ (ap (λ (h : List Entry). last h is.slot) (taken_stays t is.moment s.log act to) ∙ is.held);

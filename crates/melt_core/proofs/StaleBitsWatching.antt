@@ -65,7 +65,7 @@ watch_begins {h} {m} {s} stage q t look tells looked word_is since =
       moment = length h;
       from = since;
       to = omega arith;
-      behind = λ k e stands own. slice_get_within h k e stands;
+      after = λ k e stands own. slice_get_within h k e stands;
       held = ap (λ (before : List Entry). last before at.0) (take-length h) ∙ object.1;
     }
 
@@ -84,8 +84,8 @@ read_passes q t s look x w =
       moment = w.moment;
       from = w.from;
       to = w.to;
-      behind = λ k y below stands own.
-          w.behind k y (sym (slice_get-append_left s.log (e ∷ []) k below) ∙ stands) own;
+      after = λ k y below stands own.
+          w.after k y (sym (slice_get-append_left s.log (e ∷ []) k below) ∙ stands) own;
       held = ap (λ (before : List Entry). last before w.slot) (take-append-le w.moment s.log (e ∷ []) w.to) ∙ w.held;
     })
 

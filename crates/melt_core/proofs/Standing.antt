@@ -1,4 +1,4 @@
--- What an event of one thread has to show, so that all stands behind it as before.
+-- What an event of one thread has to show, so that all stands after it as before.
 use Rattle.std.proofs.Common.{◌≡◌, ◌≢◌, ℕ, ◌<◌, ◌≤◌, ◌⊎◌, inl, inr, List, length, get_or, refl, sym, ◌∙◌, ap, subst}
 use Rattle.std.proofs.Common.{arith}
 use Rattle.std.proofs.Math.ListN.{set, length-set}
@@ -71,7 +71,7 @@ kept_own disk told v w t after s moves = record {
   made = subst (λ (x : View). x.made ≡ makes x.log) (sym moves) s.counted;
 }
 
--- One event of a thread, whose call is this behind it.
+-- One event of a thread, whose call is this after it.
 pub record Happens (disk : OnDisk) (told : Bool) (v w : View) (t : ℕ) (mine : Region) (cleared : ℕ) (act : Option Act)
     (after : Option Call) : Type 0 where
   pub event : Event told v.log (maps v) (maps w) (state disk v) (state disk w) mine cleared act
@@ -105,10 +105,10 @@ set_call calls t u call c is =
       | inr differ ↦ inr (differ, sym (get_or-set_other calls t u call None differ) ∙ is)
     ]
 
--- a call in flight behind the event
-call_behind : (v w : View) (t u : ℕ) (call : Option Call) (c : Call) → w.calls ≡ set v.calls t call
+-- a call in flight after the event
+call_after : (v w : View) (t u : ℕ) (call : Option Call) (c : Call) → w.calls ≡ set v.calls t call
     → call_of w u ≡ Some c → ((u ≡ t) × (call ≡ Some c)) ⊎ ((u ≢ t) × (call_of v u ≡ Some c))
-call_behind v w t u call c sets is =
+call_after v w t u call c sets is =
     set_call v.calls t u call c (ap (λ (cs : List (Option Call)). get_or cs u None) (sym sets) ∙ is)
 
 -- the call of the thread is the one that was set
@@ -123,10 +123,10 @@ pub call_there : (v w : View) (t u : ℕ) (call : Option Call) → w.calls ≡ s
 call_there v w t u call sets differ = ap (λ (cs : List (Option Call)). get_or cs u None) sets
     ∙ get_or-set_other v.calls t u call None differ
 
--- behind such an event all stands
-pub stands_behind : {disk : OnDisk} {told : Bool} {v w : View} {t : ℕ} {mine : Region} {cleared : ℕ} {act : Option Act}
+-- after such an event all stands
+pub stands_after : {disk : OnDisk} {told : Bool} {v w : View} {t : ℕ} {mine : Region} {cleared : ℕ} {act : Option Act}
     {after : Option Call} → Standing told disk v → Happens disk told v w t mine cleared act after → Standing told disk w
-stands_behind {disk} {told} {v} {w} {t} {mine} {cleared} {act} {after} s e =
+stands_after {disk} {told} {v} {w} {t} {mine} {cleared} {act} {after} s e =
     let keeps : Keeps told v.log (with_entry t v.log act) (maps v) (maps w) (state disk v) (state disk w) mine cleared =
     event_keeps told t v.log (maps v) (maps w) (state disk v) (state disk w) mine cleared act s.legal s.holds e.event in
     let evolves : Evolves (maps v) (maps w) (state disk v) (state disk w) cleared = keeps.evolves in
@@ -155,7 +155,7 @@ stands_behind {disk} {told} {v} {w} {t} {mine} {cleared} {act} {after} s e =
             (register_in v.held u r)
             (s.registers u r))
       ];
-      known = λ u c is. elim (call_behind v w t u after c e.kept.calls is) [
+      known = λ u c is. elim (call_after v w t u after c e.kept.calls is) [
         | inl here ↦ subst (λ (k : ℕ). Known told (maps w) (state disk w) (rest_of w k) c.stage) (sym here.0)
             (e.known c here.1)
         | inr there ↦ subst (λ (rest : List ℕ). Known told (maps w) (state disk w) rest c.stage)
@@ -165,17 +165,17 @@ stands_behind {disk} {told} {v} {w} {t} {mine} {cleared} {act} {after} s e =
             c.stage
             (λ owns. keeps.regions (region_of c.stage) owns (e.mine_is u c there.0 there.1)) (s.known u c there.1))
       ];
-      fits = λ u c is. elim (call_behind v w t u after c e.kept.calls is) [
+      fits = λ u c is. elim (call_after v w t u after c e.kept.calls is) [
         | inl here ↦ subst (λ (k : ℕ). Fits (register_in w.held k) c.op c.stage) (sym here.0) (e.fits c here.1)
         | inr there ↦ subst (λ (regs : List ℕ). Fits (slice_index regs) c.op c.stage) (sym (e.kept.others u there.0))
             (s.fits u c there.1)
       ];
-      apart = λ a b c d differ first second. elim (call_behind v w t a after c e.kept.calls first) [
-        | inl here ↦ elim (call_behind v w t b after d e.kept.calls second) [
+      apart = λ a b c d differ first second. elim (call_after v w t a after c e.kept.calls first) [
+        | inl here ↦ elim (call_after v w t b after d e.kept.calls second) [
           | inl also ↦ absurd (differ (here.0 ∙ sym also.0))
           | inr there ↦ e.apart c here.1 b d there.0 there.1
         ]
-        | inr there ↦ elim (call_behind v w t b after d e.kept.calls second) [
+        | inr there ↦ elim (call_after v w t b after d e.kept.calls second) [
           | inl here ↦ apart_sym (region_of d.stage) (region_of c.stage) (e.apart d here.1 a c there.0 there.1)
           | inr also ↦ s.apart a b c d differ there.1 also.1
         ]
@@ -230,7 +230,7 @@ advances_where {disk} {v} {w} {t} result asks made capacity applies outcome clea
     s.holds
     h.event).evolves in
     record {
-      keeps = λ told tell stands. stands_behind stands (made.happens told tell stands);
+      keeps = λ told tell stands. stands_after stands (made.happens told tell stands);
       changes = applies;
       evolves = evolves;
       others = record {

@@ -29,7 +29,7 @@ outside_at : (b cost at : ℕ) (r : Region) → Apart (record { at = b; words = 
     → at < r.at + r.words → b ≢ at
 outside_at b cost at r apart from to = λ same. elim (cases_eq b r.at) [
   | inl first ↦ apart.differ (omega arith) (omega arith) first
-  | inr other ↦ let past : r.at + r.words ≤ b = apart.behind (omega arith) in omega arith
+  | inr other ↦ let past : r.at + r.words ≤ b = apart.after (omega arith) in omega arith
 ]
 
 -- the region of a thread, where one of its own words is stored
@@ -53,7 +53,7 @@ owns_stored m s t r at word formed owns from to changes = record {
       subst (λ (h : Header). Apart (record { at = b; words = cost_of h.shape }) r) same apart;
 }
 
--- none of the words behind the header is stored yet
+-- none of the words after the header is stored yet
 pub none_stored : (m : Maps) (s : State) (address : ℕ) (shape : Shape) (holds : ℕ → ℕ) → Owns m s (region address shape)
     → HasStored m s (region address shape) holds 0
 none_stored m s address shape holds owns = record {

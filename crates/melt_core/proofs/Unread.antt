@@ -10,7 +10,7 @@ use Rattle.melt_core.specs.declared.answer.StepResult.{StepResult}
 use Rattle.melt_core.specs.declared.answer.StepResult.TheVariants.{Refused}
 use Rattle.melt_core.specs.declared.call.Call.{Call}
 use Rattle.melt_core.specs.Stages.{NeedsNoRead}
-use Rattle.melt_core.specs.Advances.{Advances, Asks, IsDamage, MayAdvance, Moves, Uses}
+use Rattle.melt_core.specs.Advances.{Advances, Asks, IsDamage, MayAdvance, MakesEvent, Uses}
 use Rattle.melt_core.specs.Views.{View, call_of, stage_in, stage_of}
 use Rattle.melt_core.proofs.Asked.{inside}
 use Rattle.melt_core.proofs.Disks.{moves_advance}
@@ -24,7 +24,7 @@ pub record Unread (end : ℕ) (image : Option (List ℕ)) (v w : View) (t : ℕ)
   pub damage : (damaged : Damaged) → result ≡ Refused (refusal.Damaged damaged) → IsDamage image end v t damaged
 
 pub unread : {end : ℕ} (image : Option (List ℕ)) {v w : View} {t : ℕ} {o : Op} {result : StepResult} (faults reads : ℕ)
-    → MayAdvance end v t o → Moves v w t o result → NeedsNoRead (stage_of v t)
+    → MayAdvance end v t o → MakesEvent v w t o result → NeedsNoRead (stage_of v t)
     → Unread end image v w t o result faults reads
 unread {end} image {v} {w} {t} {o} {result} faults reads may moves none = record {
   advances = moves_advance image may moves;

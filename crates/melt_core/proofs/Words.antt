@@ -1,4 +1,4 @@
--- How the words of a view stay, or change, whatever registers, calls and history are behind it.
+-- How the words of a view stay, or change, whatever registers, calls and history are after it.
 use Rattle.std.proofs.Common.{◌≡◌, ℕ, List, refl, ap, subst}
 use Rattle.melt_space.specs.Space.{SpaceWords, SetsWord}
 use Rattle.melt_scion.specs.Changes.{SameWords, WordChanges}
@@ -10,13 +10,13 @@ use Rattle.melt_core.specs.Events.{PlaceChanges}
 use Rattle.melt_core.specs.Views.{View, state, shown, base_in}
 
 -- nothing changes but registers
-pub same_behind : (disk : OnDisk) (v : View) (held : List Registers)
+pub same_after : (disk : OnDisk) (v : View) (held : List Registers)
     → SameWords (state disk v) (shown disk v v.space held v.free)
-same_behind disk v held = record { base = refl; free = refl; word = λ k. refl; global = λ g. refl; forward = λ p. refl }
+same_after disk v held = record { base = refl; free = refl; word = λ k. refl; global = λ g. refl; forward = λ p. refl }
 
 -- nothing changes
 pub same_words : (disk : OnDisk) (v : View) → SameWords (state disk v) (state disk v)
-same_words disk v = same_behind disk v v.held
+same_words disk v = same_after disk v v.held
 
 -- a word of the space was set
 pub word_set : (disk : OnDisk) (v : View) (space : SpaceWords) (held : List Registers) (at word : ℕ)

@@ -38,7 +38,7 @@ made_more h k =
       sum-map cost (shapes k),
     )
 
--- what an event makes is in use behind it
+-- what an event makes is in use after it
 abbrev Named : List Entry → Maps → Option Act → Type 0
 Named h new None = Unit {0}
 Named h new (Some (Make refs nums)) = InUse new (makes h)
@@ -63,7 +63,7 @@ module _ (told : Bool) (h : List Entry) (maps new : Maps) (s t : State) where
       (Event.untags place at found target value is slot range was named fresh same last changes) = tt
   named_event mine cleared act (Event.commits home tried p n address shape rest may changes appears) = tt
 
-  -- So where all objects from some number on are in use, they are behind an event too.
+  -- So where all objects from some number on are in use, they are after an event too.
   pub made_stay : (thread : ℕ) (mine : Region) (cleared : ℕ) (act : Option Act)
       → Event told h maps new s t mine cleared act → Evolves maps new s t cleared → (first : ℕ)
       → ((n : ℕ) → first ≤ n → n < makes h → InUse maps n) → (n : ℕ) → first ≤ n

@@ -40,7 +40,7 @@ use Rattle.melt_core.proofs.Staged.{noted_again}
 use Rattle.melt_core.proofs.Tasks.{LoadsNothing, no_load, store_is, gstore_is, put_is}
 use Rattle.melt_core.proofs.Values.{value_held, may_value}
 
--- the view behind a write
+-- the view after a write
 abbrev pub written : View → SpaceWords → List ℕ → ℕ → Act → View
 written v space globals t act = with_call (noted (over v space globals) (entry t act)) t None
 

@@ -71,7 +71,7 @@ pub record MayAdvance (end : ℕ) (v : View) (t : ℕ) (o : Op) : Type 0 where
   pub asks : Asks disk v t o
 
 -- over some disk
-pub record MayMove (v : View) (t : ℕ) (o : Op) : Type 0 where
+pub record MayMakeEvent (v : View) (t : ℕ) (o : Op) : Type 0 where
   pub disk : OnDisk
   pub asks : Asks disk v t o
 
@@ -94,7 +94,7 @@ pub record KeepsOwn (v w : View) (t : ℕ) : Type 0 where
   pub values : values_of w t ≡ values_of v t
 
 -- the call of the thread goes on
-pub record Goes (disk : OnDisk) (v w : View) (t : ℕ) (o : Op) : Type 0 where
+pub record CallGoesOn (disk : OnDisk) (v w : View) (t : ℕ) (o : Op) : Type 0 where
   pub stage : Stage
   pub next : Next (maps v) (state disk v) (register_in v.held t) v.stop o (stage_of v t) stage
   pub call : call_of w t ≡ Some (record { op = o; stage = stage })
@@ -184,7 +184,7 @@ Refuses tells disk v w t o refusal.DiskFault = (home : ℕ) × IsLost v w t home
 Refuses tells disk v w t o (refusal.Damaged damaged) = IsDamaged tells disk v w t damaged
 
 abbrev pub StepOutcome : Type 0 → OnDisk → View → View → ℕ → Op → StepResult → Type 0
-StepOutcome tells disk v w t o Going = Goes disk v w t o
+StepOutcome tells disk v w t o Going = CallGoesOn disk v w t o
 StepOutcome tells disk v w t o (Answered reply) = IsAnswered disk v w t o reply
 StepOutcome tells disk v w t o (Refused refusal) = Refuses tells disk v w t o refusal
 
@@ -214,26 +214,26 @@ abbrev pub AdvancesOver : OnDisk → View → View → ℕ → Op → StepResult
 AdvancesOver disk v w t o result = AdvancesWhere (Unit {0}) disk v w t o result
 
 -- over each disk over which the words are well formed
-pub record Moves (v w : View) (t : ℕ) (o : Op) (result : StepResult) : Type 0 where
+pub record MakesEvent (v w : View) (t : ℕ) (o : Op) (result : StepResult) : Type 0 where
   pub over : (disk : OnDisk) → Standing false disk v → AdvancesOver disk v w t o result
 
--- A thread may make the event behind a stage, whether that is written where its call is or not.
-abbrev pub MayMoveFrom : View → ℕ → Op → Stage → Type 0
-MayMoveFrom v t o stage = MayMove (with_stage v t o stage) t o
+-- A thread may make the event after a stage, whether that is written where its call is or not.
+abbrev pub MayMakeEventFrom : View → ℕ → Op → Stage → Type 0
+MayMakeEventFrom v t o stage = MayMakeEvent (with_stage v t o stage) t o
 
 -- and it was made
-abbrev pub MovesFrom : View → View → ℕ → Op → Stage → StepResult → Type 0
-MovesFrom v w t o stage result = Moves (with_stage v t o stage) w t o result
+abbrev pub MakesEventFrom : View → View → ℕ → Op → Stage → StepResult → Type 0
+MakesEventFrom v w t o stage result = MakesEvent (with_stage v t o stage) w t o result
 
--- so many events of one call and one more, each right behind the one before: all but the last go on
-abbrev pub MovesBy : ℕ → View → View → ℕ → Op → StepResult → Type 0
-MovesBy zero v w t o result = Moves v w t o result
-MovesBy (suc more) v w t o result = (u : View) × Moves v u t o Going × MovesBy more u w t o result
+-- so many events of one call and one more, each right after the one before: all but the last go on
+abbrev pub MakesEventsBy : ℕ → View → View → ℕ → Op → StepResult → Type 0
+MakesEventsBy zero v w t o result = MakesEvent v w t o result
+MakesEventsBy (suc more) v w t o result = (u : View) × MakesEvent v u t o Going × MakesEventsBy more u w t o result
 
--- Events of one call, each right behind the one before. Where they are several, the call is not refused.
-pub record MovesOn (v w : View) (t : ℕ) (o : Op) (result : StepResult) : Type 0 where
+-- Events of one call, each right after the one before. Where they are several, the call is not refused.
+pub record MakesEvents (v w : View) (t : ℕ) (o : Op) (result : StepResult) : Type 0 where
   pub more : ℕ
-  pub moves : MovesBy more v w t o result
+  pub moves : MakesEventsBy more v w t o result
   pub refused : (refusal : Refusal) → result ≡ Refused refusal → more ≡ 0
 
 -- the words that a reader tells, if it tells any, are those of the disk
@@ -274,7 +274,7 @@ pub record IsDamage (image : Option (List ℕ)) (end : ℕ) (v : View) (t : ℕ)
   pub read : IfSome image (λ told. words ≡ words_at told (reads_from (stage_of v t)).0 (reads_from (stage_of v t)).1)
   pub breaks : Breaks v.scions end (stage_of v t) words damaged
 
--- how often a call may read behind an event
+-- how often a call may read after an event
 abbrev pub reads_after : StepResult → Option Stage → ℕ
 reads_after Going stage = reads_left stage
 reads_after result stage = 0

@@ -29,6 +29,6 @@ pub record Answers (t : ℕ) (log : List Entry) (rs : List Value) (o : Op) (repl
     (rs_after : List Value) : Type 0 where
   pub value : Value
   pub given : gives log (does log rs o value).act ≡ value
-  pub told : (does log rs o value).reply ≡ reply
+  pub reply_is : (does log rs o value).reply ≡ reply
   pub registers : rs_after ≡ (does log rs o value).registers
   pub history : log_after ≡ with_entry t log (does log rs o value).act

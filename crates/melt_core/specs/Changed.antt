@@ -90,7 +90,7 @@ pub record StandsAt (v : View) (place : Place) : Type 0 where
 pub record HasRead (v w : View) (t : ℕ) (place : Place) (dst address : ℕ) (result : StepResult) : Type 0 where
   pub slot : Slot
   pub is_slot : SlotAt (maps v) place slot
-  pub told : result ≡ Answered (found (held_value v.names address))
+  pub answered : result ≡ Answered (found (held_value v.names address))
   pub is : w ≡ with_call (with_register (noted v (entry t (Read slot (held_value v.names address)))) t dst address) t
       None
 

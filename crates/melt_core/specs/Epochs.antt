@@ -20,7 +20,7 @@ pub record IsNewRest (threads entries : ℕ) (rest : Rest) : Type 0 where
   pub calls : rest.calls.items ≡ replicate threads None
   pub records : rest.records.items ≡ replicate threads (replicate max_rest 0)
   pub history : rest.log.items ≡ []
-  pub told : rest.told ≡ []
+  pub shadow_log : rest.shadow_log ≡ []
   pub room : entries ≤ vec_capacity rest.log
   pub made : rest.made ≡ 0
 

@@ -87,7 +87,7 @@ pub record Misses (told : Bool) (maps : Maps) (s : State) (search : Search) : Ty
   pub searches : Searches told maps s search.place search.home search.tried
   pub within : search.tried < s.base.forwards
 
--- And the Body at the home was read, of this shape and with these words behind its head.
+-- And the Body at the home was read, of this shape and with these words after its head.
 pub record Fetches (told : Bool) (maps : Maps) (s : State) (rest : List ℕ) (search : Search) (shape : Shape) : Type 0
   where
     pub misses : Misses told maps s search
@@ -99,7 +99,7 @@ pub record HoldsCopy (told : Bool) (maps : Maps) (s : State) (rest : List ℕ) (
   pub body : HasBody told s.base a.search.home a.shape rest
   pub copy : HasCopy maps s a.address a.search.home a.shape rest
 
--- By the stage of the call, with the words that it read behind the head of a record; what it says of values is told
+-- By the stage of the call, with the words that it read after the head of a record; what it says of values is told
 -- where the disk tells its words.
 abbrev pub Known : Bool → Maps → State → List ℕ → Stage → Type 0
 Known told maps s rest (Polled task) = Unit {0}

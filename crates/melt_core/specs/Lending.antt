@@ -11,6 +11,6 @@ use Rattle.melt_core.specs.contracts.machine.Rest.{the_row}
 abbrev pub with_held : Rest → List Registers → Rest
 with_held rest held = record rest { held = with_items rest.held held }
 
--- the rest ends with the last registers behind the reference
+-- the rest ends with the last registers after the reference
 abbrev pub LendsHeld : MutBor Rest → MutBor (List Registers) → Fml
 LendsHeld rest held = Lends the_row (Array registers.the_row 0) rest held (with_held rest.now)

@@ -21,7 +21,7 @@ use Rattle.melt_core.specs.Answering.{with_entry}
 use Rattle.melt_core.specs.Known.{IsPlace, SlotAt, region}
 use Rattle.melt_core.specs.Events.{LastAt, Keeps}
 
--- One row has the stop word, the first free place and, two behind their addresses, the words of objects. Globals and
+-- One row has the stop word, the first free place and, two after their addresses, the words of objects. Globals and
 -- forwarding words have rows of their own.
 pub record Table : Type 0 where
   pub words : ℕ → ℕ

@@ -185,11 +185,11 @@ Probes s search empty another next = (search.tried < s.base.forwards) ×
     ⊎ (((next_forward s search ≡ 0) × (next ≡ empty))
     ⊎ (SendsAnother (next_forward s search) search.home × (next ≡ another))))
 
--- the stage behind the head of a Body: one without slots and numbers has no words that are still to be read
+-- the stage after the head of a Body: one without slots and numbers has no words that are still to be read
 abbrev pub body_stage : Search → Shape → Stage
 body_stage search shape = if shape.refs + shape.nums == 0 then BodyRead search shape else HeadRead search shape
 
--- what is behind the head of a record
+-- what is after the head of a record
 abbrev pub ReadAs : State → Search → Shape → Kind → Stage → Type 0
 ReadAs s search shape Body next = next ≡ body_stage search shape
 ReadAs s search shape (Stub scion) next = (target : ℕ)

@@ -24,7 +24,7 @@ use Rattle.melt_core.specs.declared.call.Stage.TheVariants.{Polled, Headed, Look
 use Rattle.melt_core.specs.declared.call.Stage.TheVariants.{Searching, Missed, HeadRead, BodyRead, Copying, Copied}
 use Rattle.melt_core.specs.declared.call.Stage.TheVariants.{Retrying, LackingCopy}
 use Rattle.melt_core.specs.Known.{SlotAt}
-use Rattle.melt_core.specs.Advances.{AdvancesWhere, MayMove, TellsDisk}
+use Rattle.melt_core.specs.Advances.{AdvancesWhere, MayMakeEvent, TellsDisk}
 use Rattle.melt_core.specs.Epochs.{HasDropped, HasFinished}
 use Rattle.melt_core.specs.Views.{View, Standing, maps, stage_of, registers_in, InUse, IsQuiet}
 
@@ -34,7 +34,7 @@ pub record Used (h : List Entry) (q n : ℕ) : Type 0 where
   pub from : q ≤ place
   pub gives : given_at h place ≡ Some (value.Ref n)
 
--- At a moment not before q a slot held the object, and the next entry of some thread behind that moment reads the slot.
+-- At a moment not before q a slot held the object, and the next entry of some thread after that moment reads the slot.
 -- What it finds there by then may be another value.
 pub record LookedAt (h : List Entry) (q n : ℕ) : Type 0 where
   pub place : ℕ
@@ -46,7 +46,7 @@ pub record LookedAt (h : List Entry) (q n : ℕ) : Type 0 where
   pub moment : ℕ
   pub from : q ≤ moment
   pub to : moment ≤ place
-  pub behind : (k : ℕ) (e : Entry) → k < place → slice_get h k ≡ Some e → e.thread ≡ entry.thread → k < moment
+  pub after : (k : ℕ) (e : Entry) → k < place → slice_get h k ≡ Some e → e.thread ≡ entry.thread → k < moment
   pub held : last (take moment h) slot ≡ value.Ref n
 
 -- the object was used, or a thread looked at it
@@ -124,7 +124,7 @@ pub record Pending (s : Sight) (n : ℕ) : Type 0 where
   pub is : pending (s.stage thread) ≡ Some address
   pub named : s.maps.address address ≡ Some n
 
--- At a moment since q, behind all entries of the thread, the slot of the look held the object for which the reference
+-- At a moment since q, after all entries of the thread, the slot of the look held the object for which the reference
 -- that was found there stands.
 pub record Watched (q : ℕ) (s : Sight) (thread : ℕ) (look : Look) : Type 0 where
   pub number : ℕ
@@ -134,7 +134,7 @@ pub record Watched (q : ℕ) (s : Sight) (thread : ℕ) (look : Look) : Type 0 w
   pub moment : ℕ
   pub from : q ≤ moment
   pub to : moment ≤ length s.log
-  pub behind : (k : ℕ) (e : Entry) → slice_get s.log k ≡ Some e → e.thread ≡ thread → k < moment
+  pub after : (k : ℕ) (e : Entry) → slice_get s.log k ≡ Some e → e.thread ≡ thread → k < moment
   pub held : last (take moment s.log) slot ≡ value.Ref number
 
 -- What is kept from a first sight on. An object without the bit had none at first, or was passed since, or a call is
@@ -169,7 +169,7 @@ pub record StaleBitLaws (u : View) : Type 0 where
   pub begins : IsQuiet u → TiedTo u u
   -- each event of a thread keeps it
   pub advances : (image : Option (List ℕ)) (disk : OnDisk) (v w : View) (t : ℕ) (o : Op) (result : StepResult) →
-      Standing true disk v → MayMove v t o → HasRegisters v t → TellsDisk image disk →
+      Standing true disk v → MayMakeEvent v t o → HasRegisters v t → TellsDisk image disk →
       AdvancesWhere (TellsDisk image disk) disk v w t o result → TiedTo u v → TiedTo u w
   -- and so do a request to stop, a thread that lets its registers hold nothing, and the end
   pub asked : (v : View) → TiedTo u v → TiedTo u (record v { stop = true })

@@ -33,7 +33,7 @@ use Rattle.melt_core.specs.Known.{Known, region_of}
 use Rattle.melt_core.specs.Stages.{Fits}
 
 -- The words of the space, the scions, the globals, the forwarding words, the names of objects, the registers and the
--- call in flight of each thread, the words that each read behind the head of a record, the history, how many entries it
+-- call in flight of each thread, the words that each read after the head of a record, the history, how many entries it
 -- has room for and how many objects were made in it, the first free place, and whether the stop word is set.
 pub record View : Type 0 where
   pub space : SpaceWords
@@ -72,7 +72,7 @@ unbounded = 2 ^ 64
 
 -- the history, which is stored or not, and how many entries it has room for
 abbrev pub history_in : Bool → Rest → List Entry
-history_in stored rest = if stored then rest.log.items else rest.told
+history_in stored rest = if stored then rest.log.items else rest.shadow_log
 
 abbrev pub room_in : Bool → Rest → ℕ
 room_in stored rest = if stored then vec_capacity rest.log else unbounded
@@ -170,11 +170,11 @@ stage_in (Some c) = Some c.stage
 abbrev pub stage_of : View → ℕ → Option Stage
 stage_of v t = stage_in (call_of v t)
 
--- the words that the call of a thread read behind the head of a record
+-- the words that the call of a thread read after the head of a record
 abbrev pub rest_of : View → ℕ → List ℕ
 rest_of v t = slice_index_or v.records t []
 
--- so many words has a record behind its head at most
+-- so many words has a record after its head at most
 abbrev pub max_rest : ℕ
 max_rest = 124
 
@@ -202,7 +202,7 @@ pub record Counts (v : View) : Type 0 where
   pub below : in_use + claimed v.calls + 1 ≤ v.free
   pub within : in_use + claimed v.calls ≤ length v.space.list
 
--- how many claims that end past the last word a call may still make, with what its thread does behind it
+-- how many claims that end past the last word a call may still make, with what its thread does after it
 abbrev pub claims_left : Bool → Option Stage → ℕ
 claims_left stop (Some (Polled task)) = 1
 claims_left stop (Some (Headed address shape access)) = 1

@@ -4,7 +4,8 @@
 //! a word with a tag, and a call that lacks words, leave it.
 ghost use Rattle.std.specs.Prelude.{◌≡◌, Some};
 ghost use Rattle.melt_record.specs.declared.damage.Damaged.{Damaged};
-ghost use Rattle.melt_core.specs.Advances.{Advances, IsDamage, MayAdvance, MayMove, MayMoveFrom, Moves, MovesFrom, Uses};
+ghost use Rattle.melt_core.specs.Advances.{Advances, IsDamage, MayAdvance, MayMakeEvent, MayMakeEventFrom, MakesEvent};
+ghost use Rattle.melt_core.specs.Advances.{MakesEventFrom, Uses};
 ghost use Rattle.melt_core.specs.Stages.{ComesBack, IsSlow, NeedsNoRead};
 ghost use Rattle.melt_core.specs.Views.{stage_of, view};
 
@@ -23,9 +24,9 @@ impl Core {
     // (inlined, so that no result is written to memory)
     #[inline(always)]
     fn after_poll(&mut self, thread: u32, op: Op, task: Task) -> StepResult
-        requires asks { MayMove (view self.old) thread op }
+        requires asks { MayMakeEvent (view self.old) thread op }
         requires stage { stage_of (view self.old) thread ≡ Some (Stage.Polled task) }
-        ensures { Moves (view self.old) (view self.new) thread op result }
+        ensures { MakesEvent (view self.old) (view self.new) thread op result }
     {
         match task {
             Task::Make { dst, shape } => self.claim(thread, op, shape, dst),
@@ -46,8 +47,8 @@ impl Core {
         shape: Shape,
         access: Access,
     ) -> StepResult
-        requires { MayMoveFrom (view self.old) thread op (Stage.Headed address shape access) }
-        ensures { MovesFrom (view self.old) (view self.new) thread op (Stage.Headed address shape access) result }
+        requires { MayMakeEventFrom (view self.old) thread op (Stage.Headed address shape access) }
+        ensures { MakesEventFrom (view self.old) (view self.new) thread op (Stage.Headed address shape access) result }
     {
         let object = address;
         match access {
@@ -60,10 +61,10 @@ impl Core {
 
     /// The event of a load that found a home, without the disk.
     fn after_search(&mut self, thread: u32, op: Op, stage: Stage) -> StepResult
-        requires asks { MayMove (view self.old) thread op }
+        requires asks { MayMakeEvent (view self.old) thread op }
         requires stage { stage_of (view self.old) thread ≡ Some stage }
         requires comes_back { ComesBack stage }
-        ensures { Moves (view self.old) (view self.new) thread op result }
+        ensures { MakesEvent (view self.old) (view self.new) thread op result }
     {
         match stage {
             Stage::Searching { search } => self.search(thread, op, search),
@@ -80,11 +81,11 @@ impl Core {
 
     /// The event of a call that lacks words, or of a load that found a word with a tag, without the disk.
     fn after_tag(&mut self, thread: u32, op: Op, stage: Stage) -> StepResult
-        requires asks { MayMove (view self.old) thread op }
+        requires asks { MayMakeEvent (view self.old) thread op }
         requires stage { stage_of (view self.old) thread ≡ Some stage }
         requires slow { IsSlow (Some stage) }
         requires no_read { NeedsNoRead (Some stage) }
-        ensures { Moves (view self.old) (view self.new) thread op result }
+        ensures { MakesEvent (view self.old) (view self.new) thread op result }
     {
         match stage {
             Stage::Looked {

@@ -5,7 +5,7 @@
 //! reads it there, so that it is not written. A call that comes to a stage from which few calls go on is left there, in
 //! flight, for `advance`.
 ghost use Rattle.std.specs.Prelude.{◌≡◌, ◌↔◌, ◌<◌, length, IsTrue, IfErr, IfOk, Some, None};
-ghost use Rattle.melt_core.specs.Advances.{MayMove, MayMoveFrom, MovesOn};
+ghost use Rattle.melt_core.specs.Advances.{MayMakeEvent, MayMakeEventFrom, MakesEvents};
 ghost use Rattle.melt_core.specs.Changed.{with_stage};
 ghost use Rattle.melt_core.specs.Stages.{task_of};
 ghost use Rattle.melt_core.specs.Views.{call_of, stage_of, view};
@@ -38,14 +38,14 @@ impl Core {
         r: u8,
         access: Access,
     ) -> Result<(u32, Shape), StepResult>
-        requires asks { MayMove (view self.now) thread op }
+        requires asks { MayMakeEvent (view self.now) thread op }
         requires first { call_of (view self.now) thread ≡ None }
         requires task { task_of op ≡ Some (Task.Use r access) }
-        ensures goes { IfOk result (λ found. MovesOn (view self.now)
+        ensures goes { IfOk result (λ found. MakesEvents (view self.now)
             (with_stage (view self.now) thread op (Stage.Headed found.0 found.1 access)) thread op StepResult.Going) }
         ensures may { IfOk result
-            (λ found. MayMoveFrom (view self.now) thread op (Stage.Headed found.0 found.1 access)) }
-        ensures answers { IfErr result (λ answer. MovesOn (view self.now) (view self.now) thread op answer) }
+            (λ found. MayMakeEventFrom (view self.now) thread op (Stage.Headed found.0 found.1 access)) }
+        ensures answers { IfErr result (λ answer. MakesEvents (view self.now) (view self.now) thread op answer) }
     {
         let address = self.register(thread, r);
         if address == 0 {
@@ -65,10 +65,10 @@ impl Core {
     /// Loads a slot of the object in a register.
     #[inline(always)]
     fn load_at_once(&mut self, thread: u32, op: Op, src: u8, dst: u8, i: u8) -> StepResult
-        requires asks { MayMove (view self.old) thread op }
+        requires asks { MayMakeEvent (view self.old) thread op }
         requires first { call_of (view self.old) thread ≡ None }
         requires task { task_of op ≡ Some (Task.Use src (Access.Load dst i)) }
-        ensures { MovesOn (view self.old) (view self.new) thread op result }
+        ensures { MakesEvents (view self.old) (view self.new) thread op result }
     {
         match self.object_at_once(thread, op, src, Access::Load { dst, i }) {
             Ok((object, _)) => self.look(thread, op, Place::Field { object, i }, dst),
@@ -79,10 +79,10 @@ impl Core {
     /// Stores into a slot of the object in a register.
     #[inline(always)]
     fn store_at_once(&mut self, thread: u32, op: Op, obj: u8, i: u8, src: u8) -> StepResult
-        requires asks { MayMove (view self.old) thread op }
+        requires asks { MayMakeEvent (view self.old) thread op }
         requires first { call_of (view self.old) thread ≡ None }
         requires task { task_of op ≡ Some (Task.Use obj (Access.Store i src)) }
-        ensures { MovesOn (view self.old) (view self.new) thread op result }
+        ensures { MakesEvents (view self.old) (view self.new) thread op result }
     {
         match self.object_at_once(thread, op, obj, Access::Store { i, src }) {
             Ok((object, _)) => self.store(thread, op, Place::Field { object, i }, src),
@@ -93,10 +93,10 @@ impl Core {
     /// Reads a number word of the object in a register.
     #[inline(always)]
     fn get_at_once(&mut self, thread: u32, op: Op, src: u8, j: u8) -> StepResult
-        requires asks { MayMove (view self.old) thread op }
+        requires asks { MayMakeEvent (view self.old) thread op }
         requires first { call_of (view self.old) thread ≡ None }
         requires task { task_of op ≡ Some (Task.Use src (Access.Get j)) }
-        ensures { MovesOn (view self.old) (view self.new) thread op result }
+        ensures { MakesEvents (view self.old) (view self.new) thread op result }
     {
         match self.object_at_once(thread, op, src, Access::Get { j }) {
             Ok((address, shape)) => self.get(thread, op, Cell { address, shape, j }),
@@ -107,10 +107,10 @@ impl Core {
     /// Writes a number word of the object in a register.
     #[inline(always)]
     fn put_at_once(&mut self, thread: u32, op: Op, obj: u8, j: u8, v: u64) -> StepResult
-        requires asks { MayMove (view self.old) thread op }
+        requires asks { MayMakeEvent (view self.old) thread op }
         requires first { call_of (view self.old) thread ≡ None }
         requires task { task_of op ≡ Some (Task.Use obj (Access.Put j v)) }
-        ensures { MovesOn (view self.old) (view self.new) thread op result }
+        ensures { MakesEvents (view self.old) (view self.new) thread op result }
     {
         match self.object_at_once(thread, op, obj, Access::Put { j, v }) {
             Ok((address, shape)) => self.put(thread, op, Cell { address, shape, j }, v),
@@ -122,10 +122,10 @@ impl Core {
     // (inlined, since a call of it would have its result cleared in each operation, whichever that is)
     #[inline(always)]
     fn make_at_once(&mut self, thread: u32, op: Op, shape: Shape, dst: u8) -> StepResult
-        requires asks { MayMove (view self.old) thread op }
+        requires asks { MayMakeEvent (view self.old) thread op }
         requires first { call_of (view self.old) thread ≡ None }
         requires task { task_of op ≡ Some (Task.Make dst shape) }
-        ensures { MovesOn (view self.old) (view self.new) thread op result }
+        ensures { MakesEvents (view self.old) (view self.new) thread op result }
     {
         match self.poll(thread, op, Task::Make { dst, shape }) {
             StepResult::Going => {}
@@ -153,10 +153,10 @@ impl Core {
     // (inlined for the same reason as `make_at_once`)
     #[inline(always)]
     fn load_global_at_once(&mut self, thread: u32, op: Op, dst: u8, g: u8) -> StepResult
-        requires asks { MayMove (view self.old) thread op }
+        requires asks { MayMakeEvent (view self.old) thread op }
         requires first { call_of (view self.old) thread ≡ None }
         requires task { task_of op ≡ Some (Task.LoadGlobal dst g) }
-        ensures { MovesOn (view self.old) (view self.new) thread op result }
+        ensures { MakesEvents (view self.old) (view self.new) thread op result }
     {
         if self.stop {
             return self.pause(thread, op, Task::LoadGlobal { dst, g });
@@ -167,10 +167,10 @@ impl Core {
     /// Stores into a global.
     #[inline(always)]
     fn store_global_at_once(&mut self, thread: u32, op: Op, g: u8, src: u8) -> StepResult
-        requires asks { MayMove (view self.old) thread op }
+        requires asks { MayMakeEvent (view self.old) thread op }
         requires first { call_of (view self.old) thread ≡ None }
         requires task { task_of op ≡ Some (Task.StoreGlobal g src) }
-        ensures { MovesOn (view self.old) (view self.new) thread op result }
+        ensures { MakesEvents (view self.old) (view self.new) thread op result }
     {
         if self.stop {
             return self.pause(thread, op, Task::StoreGlobal { g, src });
@@ -185,9 +185,9 @@ impl Core {
     // (inlined, as its callers are few and make most calls)
     #[inline(always)]
     pub fn call_at_once(&mut self, thread: u32, op: Op) -> StepResult
-        requires asks { MayMove (view self.old) thread op }
+        requires asks { MayMakeEvent (view self.old) thread op }
         requires first { call_of (view self.old) thread ≡ None }
-        ensures { MovesOn (view self.old) (view self.new) thread op result }
+        ensures { MakesEvents (view self.old) (view self.new) thread op result }
     {
         match op {
             Op::New { dst, refs, nums } => {

@@ -4,7 +4,7 @@
 ghost use Rattle.std.specs.Prelude.{◌≡◌, ◌<◌, ◌≤◌, length, Some};
 ghost use Rattle.melt_word.specs.Words.{IsDiskHome, IsShape, cost_of};
 ghost use Rattle.melt_scion.specs.Commits.{copy_word};
-ghost use Rattle.melt_core.specs.Advances.{Moves, MayMove};
+ghost use Rattle.melt_core.specs.Advances.{MakesEvent, MayMakeEvent};
 ghost use Rattle.melt_core.specs.Views.{rest_of, stage_of, view};
 
 use crate::answer::StepResult;
@@ -22,9 +22,9 @@ impl Core {
         search: Search,
         shape: Shape,
     ) -> StepResult
-        requires asks { MayMove (view self.old) thread op }
+        requires asks { MayMakeEvent (view self.old) thread op }
         requires stage { stage_of (view self.old) thread ≡ Some (Stage.BodyRead search shape) }
-        ensures { Moves (view self.old) (view self.new) thread op result }
+        ensures { MakesEvent (view self.old) (view self.new) thread op result }
     {
         let stage = match self.claim_words(cost(shape)) {
             Some(address) => Stage::Copying {
@@ -41,7 +41,7 @@ impl Core {
         StepResult::Going
     }
 
-    /// A word of a copy behind its header: the home word, which has no scion yet, and then the words that were read.
+    /// A word of a copy after its header: the home word, which has no scion yet, and then the words that were read.
     fn word_of_copy(&self, thread: u32, activation: Activation, k: u32) -> u64
         requires thread { thread < length (view self.now).records }
         requires home { IsDiskHome activation.search.home }
@@ -67,9 +67,9 @@ impl Core {
         activation: Activation,
         stored: u32,
     ) -> StepResult
-        requires asks { MayMove (view self.old) thread op }
+        requires asks { MayMakeEvent (view self.old) thread op }
         requires stage { stage_of (view self.old) thread ≡ Some (Stage.Copying activation stored) }
-        ensures { Moves (view self.old) (view self.new) thread op result }
+        ensures { MakesEvent (view self.old) (view self.new) thread op result }
     {
         let Activation { address, shape, .. } = activation;
         let next = stored + 1;

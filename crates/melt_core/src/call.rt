@@ -8,7 +8,7 @@ ghost use Rattle.melt_core.specs.Stages.{HasPart, further, reached, retried};
 use melt_model::Op;
 use melt_word::{Ref, Shape};
 
-/// How many words a record has at most behind its head: 62 slots and 62 numbers.
+/// How many words a record has at most after its head: 62 slots and 62 numbers.
 pub(crate) const MAX_REST: usize = 124;
 
 /// Where the word of a reference stands.
@@ -69,7 +69,7 @@ pub struct Search {
 }
 
 impl Search {
-    /// The search behind one forwarding word more.
+    /// The search after one forwarding word more.
     pub(crate) fn further(self) -> Search
         requires { self.tried + 1 < 2 ^ 32 }
         ensures { result ≡ further self }
@@ -103,7 +103,7 @@ pub struct Activation {
 }
 
 impl Activation {
-    /// The copy at hand, behind one forwarding word more.
+    /// The copy at hand, after one forwarding word more.
     pub(crate) fn retried(self) -> Activation
         requires { self.search.tried + 1 < 2 ^ 32 }
         ensures { result ≡ retried self }
@@ -144,7 +144,7 @@ pub enum Stage {
         dst: u8,
     },
     /// The words from the address on are for a new object of this shape, which is to come into register `dst`. So many
-    /// of those behind its header were stored.
+    /// of those after its header were stored.
     Claimed {
         address: u32,
         shape: Shape,
@@ -173,7 +173,7 @@ pub enum Stage {
         search: Search,
         shape: Shape,
     },
-    /// Words were claimed for a copy, and so many of those behind its header were stored.
+    /// Words were claimed for a copy, and so many of those after its header were stored.
     Copying {
         activation: Activation,
         stored: u32,

@@ -8,7 +8,7 @@
 //! and `body` have those events.
 ghost use Rattle.std.specs.Prelude.{◌≡◌, ◌<◌, length, Some, None, IfSome, IfNone};
 ghost use Rattle.melt_scion.specs.Heaps.{OnDisk};
-ghost use Rattle.melt_core.specs.Advances.{MayMove, MayMoveFrom, Moves, MovesFrom};
+ghost use Rattle.melt_core.specs.Advances.{MayMakeEvent, MayMakeEventFrom, MakesEvent, MakesEventFrom};
 ghost use Rattle.melt_core.specs.Changed.{HasPlace, HasRead, HasRoomForEntry, HoldsRef, IsNamedOrNone, StandsAt};
 ghost use Rattle.melt_core.specs.Known.{word_in};
 ghost use Rattle.melt_core.specs.Stages.{LooksFrom};
@@ -36,9 +36,9 @@ impl Core {
     // (inlined, so that no result is written to memory)
     #[inline(always)]
     pub(crate) fn head(&mut self, thread: u32, op: Op, r: u8, access: Access) -> StepResult
-        requires asks { MayMove (view self.old) thread op }
+        requires asks { MayMakeEvent (view self.old) thread op }
         requires stage { stage_of (view self.old) thread ≡ Some (Stage.Polled (Task.Use r access)) }
-        ensures { Moves (view self.old) (view self.new) thread op result }
+        ensures { MakesEvent (view self.old) (view self.new) thread op result }
     {
         let address = self.register(thread, r);
         let shape = self.heap.space.shape(address);
@@ -59,9 +59,9 @@ impl Core {
     // (inlined, so that no result is written to memory)
     #[inline(always)]
     pub(crate) fn get(&mut self, thread: u32, op: Op, cell: Cell) -> StepResult
-        requires { MayMoveFrom (view self.old) thread op
+        requires { MayMakeEventFrom (view self.old) thread op
             (Stage.Headed cell.address cell.shape (Access.Get cell.j)) }
-        ensures { MovesFrom (view self.old) (view self.new) thread op
+        ensures { MakesEventFrom (view self.old) (view self.new) thread op
             (Stage.Headed cell.address cell.shape (Access.Get cell.j)) result }
     {
         let Cell { address, shape, j } = cell;
@@ -112,9 +112,9 @@ impl Core {
     #[inline(always)]
     pub(crate) fn look(&mut self, thread: u32, op: Op, place: Place, dst: u8) -> StepResult
         requires { (stage : Stage) × LooksFrom (Some stage) place dst
-            × MayMoveFrom (view self.old) thread op stage }
-        ensures { (stage : Stage) → LooksFrom (Some stage) place dst → MayMoveFrom (view self.old) thread op stage
-            → MovesFrom (view self.old) (view self.new) thread op stage result }
+            × MayMakeEventFrom (view self.old) thread op stage }
+        ensures { (stage : Stage) → LooksFrom (Some stage) place dst → MayMakeEventFrom (view self.old) thread op stage
+            → MakesEventFrom (view self.old) (view self.new) thread op stage result }
     {
         match self.reference_in(place) {
             Ref::Null => self.read(thread, place, dst, 0),
@@ -146,10 +146,10 @@ impl Core {
 
     /// Clears the stale bit of the object that a load found.
     pub(crate) fn clear(&mut self, thread: u32, op: Op, looked: Looked) -> StepResult
-        requires asks { MayMove (view self.old) thread op }
+        requires asks { MayMakeEvent (view self.old) thread op }
         requires stage { stage_of (view self.old) thread ≡ Some
             (Stage.Looked looked.place looked.found looked.target looked.dst) }
-        ensures { Moves (view self.old) (view self.new) thread op result }
+        ensures { MakesEvent (view self.old) (view self.new) thread op result }
     {
         let Looked {
             place,
@@ -177,10 +177,10 @@ impl Core {
     /// Exchanges the word at a place for that of the clean address, if it is still that which was found. The load is
     /// answered with the reference that stands there then.
     pub(crate) fn untag(&mut self, thread: u32, op: Op, looked: Looked) -> StepResult
-        requires asks { MayMove (view self.old) thread op }
+        requires asks { MayMakeEvent (view self.old) thread op }
         requires stage { stage_of (view self.old) thread ≡ Some
             (Stage.Cleared looked.place looked.found looked.target looked.dst) }
-        ensures { Moves (view self.old) (view self.new) thread op result }
+        ensures { MakesEvent (view self.old) (view self.new) thread op result }
     {
         let Looked {
             place,

@@ -13,17 +13,17 @@ use melt_scion::{GhostMaps, Heap, Registers};
 use std::alloc::Global;
 
 /// What a core has beside its heap: the registers of all threads, their calls in flight with a buffer each for what
-/// they read of a record behind its head, and the history with the number of objects that were made in it.
+/// they read of a record after its head, and the history with the number of objects that were made in it.
 ///
 /// The history is stored in `log` where the heap keeps names, without which no entry can be written down. Else it is
-/// `told`, to contracts alone.
+/// `shadow_log`, to contracts alone.
 #[derive(Drop)]
 pub struct Rest {
     pub(crate) held: Vec<Registers>,
     pub(crate) calls: Vec<Option<Call>>,
     pub(crate) records: Vec<[u64; MAX_REST]>,
     pub(crate) log: Vec<Entry>,
-    pub(crate) told: Ghost<Entries>,
+    pub(crate) shadow_log: Ghost<Entries>,
     pub(crate) made: u64,
 }
 
@@ -39,7 +39,7 @@ impl Rest {
             calls: vec![in alloc; None; threads as usize]?,
             records: vec![in alloc; [0; MAX_REST]; threads as usize]?,
             log: Vec::with_capacity(alloc, entries as usize)?,
-            told: Ghost::pick(&()),
+            shadow_log: Ghost::pick(&()),
             made: 0,
         })
     }
@@ -72,7 +72,7 @@ pub struct Core {
 }
 
 impl Core {
-    /// Begins an epoch with the stop word not set. The words behind those in use are free, and no forwarding word is
+    /// Begins an epoch with the stop word not set. The words after those in use are free, and no forwarding word is
     /// filled. The history is stored where the heap keeps names, since it speaks of objects by their numbers.
     pub fn begin(heap: Heap, rest: Rest) -> Core
         requires settled { IsSettled heap }

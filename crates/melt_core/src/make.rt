@@ -4,7 +4,7 @@
 //! but the first, and the header last: with that word the object is there, whole.
 ghost use Rattle.std.specs.Prelude.{◌≡◌, ◌+◌, ◌<◌, Some, IfSome};
 ghost use Rattle.melt_word.specs.Words.{cost_of};
-ghost use Rattle.melt_core.specs.Advances.{Moves, MayMove};
+ghost use Rattle.melt_core.specs.Advances.{MakesEvent, MayMakeEvent};
 ghost use Rattle.melt_core.specs.Stages.{Lacks};
 ghost use Rattle.melt_core.specs.Views.{stage_of, view};
 
@@ -16,7 +16,7 @@ use melt_model::{Op, Reply};
 use melt_word::{Header, Shape, cost, encode_header};
 
 /// The words that a call claimed, from the address on, for a new object of the shape, which is to come into register
-/// `dst`. So many of those behind the header were stored.
+/// `dst`. So many of those after the header were stored.
 #[derive(Clone, Copy)]
 pub(crate) struct Claim {
     pub(crate) address: u32,
@@ -48,9 +48,9 @@ impl Claim {
 impl Core {
     /// Claims the words for an object, and answers their address, if they do not end past the last word of the heap.
     pub(crate) fn claim_region(&mut self, thread: u32, op: Op, shape: Shape, dst: u8) -> Option<u32>
-        requires asks { MayMove (view self.old) thread op }
+        requires asks { MayMakeEvent (view self.old) thread op }
         requires stage { stage_of (view self.old) thread ≡ Some (Stage.Polled (Task.Make dst shape)) }
-        ensures moves { Moves (view self.old) (view self.new) thread op StepResult.Going }
+        ensures moves { MakesEvent (view self.old) (view self.new) thread op StepResult.Going }
         ensures claimed { IfSome result (λ address. stage_of (view self.new) thread
             ≡ Some (Stage.Claimed address shape 0 dst)) }
     {
@@ -77,9 +77,9 @@ impl Core {
     // (inlined, so that no result is written to memory)
     #[inline(always)]
     pub(crate) fn claim(&mut self, thread: u32, op: Op, shape: Shape, dst: u8) -> StepResult
-        requires asks { MayMove (view self.old) thread op }
+        requires asks { MayMakeEvent (view self.old) thread op }
         requires stage { stage_of (view self.old) thread ≡ Some (Stage.Polled (Task.Make dst shape)) }
-        ensures { Moves (view self.old) (view self.new) thread op result }
+        ensures { MakesEvent (view self.old) (view self.new) thread op result }
     {
         self.claim_region(thread, op, shape, dst);
         StepResult::Going
@@ -87,11 +87,11 @@ impl Core {
 
     /// Stores 0 in the next word of the region of a call.
     pub(crate) fn store_zero(&mut self, thread: u32, op: Op, claim: Claim)
-        requires asks { MayMove (view self.old) thread op }
+        requires asks { MayMakeEvent (view self.old) thread op }
         requires stage { stage_of (view self.old) thread
             ≡ Some (Stage.Claimed claim.address claim.shape claim.stored claim.dst) }
         requires few { claim.stored + 1 < cost_of claim.shape }
-        ensures moves { Moves (view self.old) (view self.new) thread op StepResult.Going }
+        ensures moves { MakesEvent (view self.old) (view self.new) thread op StepResult.Going }
         ensures stored { stage_of (view self.new) thread
             ≡ Some (Stage.Claimed claim.address claim.shape (claim.stored + 1) claim.dst) }
     {
@@ -115,11 +115,11 @@ impl Core {
     // (inlined, so that no result is written to memory)
     #[inline(always)]
     pub(crate) fn publish(&mut self, thread: u32, op: Op, claim: Claim) -> StepResult
-        requires asks { MayMove (view self.old) thread op }
+        requires asks { MayMakeEvent (view self.old) thread op }
         requires stage { stage_of (view self.old) thread
             ≡ Some (Stage.Claimed claim.address claim.shape claim.stored claim.dst) }
         requires all { claim.stored + 1 ≡ cost_of claim.shape }
-        ensures { Moves (view self.old) (view self.new) thread op result }
+        ensures { MakesEvent (view self.old) (view self.new) thread op result }
     {
         let Claim {
             address,
@@ -146,10 +146,10 @@ impl Core {
     // (inlined, so that no result is written to memory)
     #[inline(always)]
     pub(crate) fn fill(&mut self, thread: u32, op: Op, claim: Claim) -> StepResult
-        requires asks { MayMove (view self.old) thread op }
+        requires asks { MayMakeEvent (view self.old) thread op }
         requires stage { stage_of (view self.old) thread
             ≡ Some (Stage.Claimed claim.address claim.shape claim.stored claim.dst) }
-        ensures { Moves (view self.old) (view self.new) thread op result }
+        ensures { MakesEvent (view self.old) (view self.new) thread op result }
     {
         if claim.stored + 1 < cost(claim.shape) {
             self.store_zero(thread, op, claim);
@@ -160,9 +160,9 @@ impl Core {
 
     /// Sets the stop word, as the words that were claimed end past the last one.
     pub(crate) fn lack(&mut self, thread: u32, op: Op, need: u32) -> StepResult
-        requires asks { MayMove (view self.old) thread op }
+        requires asks { MayMakeEvent (view self.old) thread op }
         requires stage { Lacks (stage_of (view self.old) thread) need }
-        ensures { Moves (view self.old) (view self.new) thread op result }
+        ensures { MakesEvent (view self.old) (view self.new) thread op result }
     {
         self.stop = true;
         self.set_call(thread, None);

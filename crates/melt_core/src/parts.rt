@@ -110,7 +110,7 @@ fn act_of(names: &Names, deed: Deed) -> Act
     }
 }
 
-/// Writes an entry behind those that are stored. There is room for it.
+/// Writes an entry after those that are stored. There is room for it.
 // (not inlined, so that a run that stores none has nothing of it beside its events)
 #[inline(never)]
 fn write_entry(log: &mut Vec<Entry>, names: &Names, thread: u32, deed: Deed)
@@ -210,7 +210,7 @@ impl Core {
     {
         match &self.heap.names {
             Some(names) => write_entry(&mut self.rest.log, names, thread, deed),
-            None => self.rest.told = Ghost::pick(&(&*self, thread, deed)),
+            None => self.rest.shadow_log = Ghost::pick(&(&*self, thread, deed)),
         }
     }
 

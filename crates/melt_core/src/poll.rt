@@ -4,7 +4,7 @@
 //! for at most as many events as one call has, and a thread that meets the stop word has changed nothing.
 ghost use Rattle.std.specs.Prelude.{◌≡◌, Some, None, true};
 ghost use Rattle.melt_scion.specs.Heaps.{register_in};
-ghost use Rattle.melt_core.specs.Advances.{Moves, MayMove};
+ghost use Rattle.melt_core.specs.Advances.{MakesEvent, MayMakeEvent};
 ghost use Rattle.melt_core.specs.Stages.{Shares, task_of};
 ghost use Rattle.melt_core.specs.Views.{call_of, view};
 
@@ -17,11 +17,11 @@ use melt_word::Shape;
 impl Core {
     /// The stop word is set: the call pauses.
     pub(crate) fn pause(&self, thread: u32, op: Op, task: Task) -> StepResult
-        requires asks { MayMove (view self.now) thread op }
+        requires asks { MayMakeEvent (view self.now) thread op }
         requires first { call_of (view self.now) thread ≡ None }
         requires shares { Shares (register_in (view self.now).held thread) op task }
         requires stop { (view self.now).stop ≡ true }
-        ensures { Moves (view self.now) (view self.now) thread op result }
+        ensures { MakesEvent (view self.now) (view self.now) thread op result }
     {
         StepResult::Refused(Refusal::Pause(Pause::Asked))
     }
@@ -29,10 +29,10 @@ impl Core {
     /// Reads the stop word.
     #[inline(always)]
     pub(crate) fn poll(&mut self, thread: u32, op: Op, task: Task) -> StepResult
-        requires asks { MayMove (view self.old) thread op }
+        requires asks { MayMakeEvent (view self.old) thread op }
         requires first { call_of (view self.old) thread ≡ None }
         requires shares { Shares (register_in (view self.old).held thread) op task }
-        ensures { Moves (view self.old) (view self.new) thread op result }
+        ensures { MakesEvent (view self.old) (view self.new) thread op result }
     {
         if self.stop {
             return self.pause(thread, op, task);
@@ -46,10 +46,10 @@ impl Core {
     /// word.
     #[inline(always)]
     pub(crate) fn poll_object(&mut self, thread: u32, op: Op, r: u8, access: Access) -> StepResult
-        requires asks { MayMove (view self.old) thread op }
+        requires asks { MayMakeEvent (view self.old) thread op }
         requires first { call_of (view self.old) thread ≡ None }
         requires task { task_of op ≡ Some (Task.Use r access) }
-        ensures { Moves (view self.old) (view self.new) thread op result }
+        ensures { MakesEvent (view self.old) (view self.new) thread op result }
     {
         if self.register(thread, r) == 0 {
             return StepResult::Answered(Reply::Nil);
@@ -59,9 +59,9 @@ impl Core {
 
     /// Each object has one address, so that addresses are compared in place of objects.
     pub(crate) fn same(&self, thread: u32, a: u8, b: u8) -> StepResult
-        requires asks { MayMove (view self.now) thread (Op.Same a b) }
+        requires asks { MayMakeEvent (view self.now) thread (Op.Same a b) }
         requires first { call_of (view self.now) thread ≡ None }
-        ensures { Moves (view self.now) (view self.now) thread (Op.Same a b) result }
+        ensures { MakesEvent (view self.now) (view self.now) thread (Op.Same a b) result }
     {
         if self.register(thread, a) == self.register(thread, b) {
             StepResult::Answered(Reply::Yes)
@@ -72,9 +72,9 @@ impl Core {
 
     /// No other thread sees a register, so that the copy needs no shared word.
     pub(crate) fn copy(&mut self, thread: u32, dst: u8, src: u8) -> StepResult
-        requires asks { MayMove (view self.old) thread (Op.Copy dst src) }
+        requires asks { MayMakeEvent (view self.old) thread (Op.Copy dst src) }
         requires first { call_of (view self.old) thread ≡ None }
-        ensures { Moves (view self.old) (view self.new) thread (Op.Copy dst src) result }
+        ensures { MakesEvent (view self.old) (view self.new) thread (Op.Copy dst src) result }
     {
         let address = self.register(thread, src);
         self.set_register(thread, dst, address);
@@ -83,9 +83,9 @@ impl Core {
 
     /// The register holds nothing now. What it held stays where it is until a collection.
     pub(crate) fn drop_register(&mut self, thread: u32, r: u8) -> StepResult
-        requires asks { MayMove (view self.old) thread (Op.Drop r) }
+        requires asks { MayMakeEvent (view self.old) thread (Op.Drop r) }
         requires first { call_of (view self.old) thread ≡ None }
-        ensures { Moves (view self.old) (view self.new) thread (Op.Drop r) result }
+        ensures { MakesEvent (view self.old) (view self.new) thread (Op.Drop r) result }
     {
         self.set_register(thread, r, 0);
         StepResult::Answered(Reply::Done)
@@ -95,9 +95,9 @@ impl Core {
     // (inlined, so that no result is written to memory)
     #[inline(always)]
     pub(crate) fn begin_call(&mut self, thread: u32, op: Op) -> StepResult
-        requires asks { MayMove (view self.old) thread op }
+        requires asks { MayMakeEvent (view self.old) thread op }
         requires first { call_of (view self.old) thread ≡ None }
-        ensures { Moves (view self.old) (view self.new) thread op result }
+        ensures { MakesEvent (view self.old) (view self.new) thread op result }
     {
         match op {
             Op::New { dst, refs, nums } => {

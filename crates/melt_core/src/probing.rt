@@ -1,12 +1,12 @@
 //! The search for the object of a home, and the commit of a copy of it.
 //!
 //! A load that finds a home reads the forwarding words in the order of the home's search, one in each event. A word
-//! that is filled never changes, so that what was read stays true; and no word behind an empty one names the home. So
+//! that is filled never changes, so that what was read stays true; and no word after an empty one names the home. So
 //! all threads that look for one home come to the same empty word, and of those that exchange it with a copy of the
 //! object at hand, one wins. The others find its address there, and drop their copies.
 ghost use Rattle.std.specs.Prelude.{◌≡◌, ◌↔◌, ◌<◌, ◌≤◌, ◌^◌, length, IsSome, IsTrue, Some};
 ghost use Rattle.melt_word.specs.Words.{IsDiskHome};
-ghost use Rattle.melt_core.specs.Advances.{Moves, MayMove};
+ghost use Rattle.melt_core.specs.Advances.{MakesEvent, MayMakeEvent};
 ghost use Rattle.melt_core.specs.Changed.{CanProbe, HasEntered, TellsOf, probed_place};
 ghost use Rattle.melt_core.specs.Stages.{SearchesOn};
 ghost use Rattle.melt_core.specs.Views.{numbers_of, stage_of, view};
@@ -60,10 +60,10 @@ impl Core {
 
     /// Sets the stop word, as each forwarding word sends another home. The collection that comes empties them.
     fn pause_full(&mut self, thread: u32, op: Op, search: Search) -> StepResult
-        requires asks { MayMove (view self.old) thread op }
+        requires asks { MayMakeEvent (view self.old) thread op }
         requires stage { SearchesOn (stage_of (view self.old) thread) search }
         requires all { length (view self.old).forward ≤ search.tried }
-        ensures { Moves (view self.old) (view self.new) thread op result }
+        ensures { MakesEvent (view self.old) (view self.new) thread op result }
     {
         self.stop = true;
         self.set_call(thread, None);
@@ -72,9 +72,9 @@ impl Core {
 
     /// Reads the next forwarding word in the search for a home.
     pub(crate) fn search(&mut self, thread: u32, op: Op, search: Search) -> StepResult
-        requires asks { MayMove (view self.old) thread op }
+        requires asks { MayMakeEvent (view self.old) thread op }
         requires stage { stage_of (view self.old) thread ≡ Some (Stage.Searching search) }
-        ensures { Moves (view self.old) (view self.new) thread op result }
+        ensures { MakesEvent (view self.old) (view self.new) thread op result }
     {
         if self.is_over(search) {
             return self.pause_full(thread, op, search);
@@ -90,11 +90,11 @@ impl Core {
         StepResult::Going
     }
 
-    /// Reads the next forwarding word with a copy at hand, behind one that went to another home.
+    /// Reads the next forwarding word with a copy at hand, after one that went to another home.
     pub(crate) fn retry(&mut self, thread: u32, op: Op, activation: Activation) -> StepResult
-        requires asks { MayMove (view self.old) thread op }
+        requires asks { MayMakeEvent (view self.old) thread op }
         requires stage { stage_of (view self.old) thread ≡ Some (Stage.Retrying activation) }
-        ensures { Moves (view self.old) (view self.new) thread op result }
+        ensures { MakesEvent (view self.old) (view self.new) thread op result }
     {
         let search = activation.search;
         if self.is_over(search) {
@@ -135,9 +135,9 @@ impl Core {
 
     /// Exchanges the forwarding word that was empty, if it still is. Whoever is first has made the object of the home.
     pub(crate) fn commit(&mut self, thread: u32, op: Op, activation: Activation) -> StepResult
-        requires asks { MayMove (view self.old) thread op }
+        requires asks { MayMakeEvent (view self.old) thread op }
         requires stage { stage_of (view self.old) thread ≡ Some (Stage.Copied activation) }
-        ensures { Moves (view self.old) (view self.new) thread op result }
+        ensures { MakesEvent (view self.old) (view self.new) thread op result }
     {
         let search = activation.search;
         let stage = match self.probe(search) {

@@ -20,8 +20,8 @@ use melt_model::Op;
 use melt_record::{Damaged, Head, Kind, decode_head, decode_rest};
 use melt_word::{Ref, Shape};
 
-/// The stage behind the head of a Body: without slots and numbers it is read whole.
-fn behind_head(search: Search, shape: Shape) -> Stage
+/// The stage after the head of a Body: without slots and numbers it is read whole.
+fn stage_after_head(search: Search, shape: Shape) -> Stage
     ensures { result ≡ body_stage search shape }
 {
     if shape.refs == 0 && shape.nums == 0 {
@@ -42,14 +42,14 @@ impl Core {
     }
 
     /// What the head of a record tells of the object of its home: how its load goes on.
-    fn stage_behind(&self, search: Search, head: Head) -> Result<Stage, Damaged>
+    fn stage_after(&self, search: Search, head: Head) -> Result<Stage, Damaged>
         ensures stage { (disk : OnDisk)
             → IfOk result (ReadAs (state disk (view self.now)) search head.shape head.kind) }
         ensures damage { (end first second : ℕ) → IsHead search.home end first second head
             → IfErr result (NamesNoScion (view self.now).scions search.home end first second) }
     {
         match head.kind {
-            Kind::Body => Ok(behind_head(search, head.shape)),
+            Kind::Body => Ok(stage_after_head(search, head.shape)),
             Kind::Stub { scion } => match self.heap.scions.get(scion) {
                 Some((home, target)) if home == search.home => Ok(Stage::Looked {
                     place: search.place,
@@ -74,7 +74,7 @@ impl Core {
         ensures damage { IfErr result (Breaks (view self.now).scions end (Some (Stage.Missed search)) words) }
     {
         let head = decode_head(search.home, end, words)?;
-        self.stage_behind(search, head)
+        self.stage_after(search, head)
     }
 
     /// Reads the first two words of a record.
@@ -108,7 +108,7 @@ impl Core {
         }
     }
 
-    /// Reads the words of a Body behind its head into the buffer of the thread.
+    /// Reads the words of a Body after its head into the buffer of the thread.
     pub(crate) fn read_rest<R: RecordReader>(
         &mut self,
         thread: u32,

@@ -3,7 +3,7 @@
 //! A register never holds an object with the stale bit, so that what is written needs no tag. The entry of the history
 //! and the word are written in one event: no other thread can come between.
 ghost use Rattle.std.specs.Prelude.{◌≡◌, Some};
-ghost use Rattle.melt_core.specs.Advances.{MayMoveFrom, MovesFrom};
+ghost use Rattle.melt_core.specs.Advances.{MayMakeEventFrom, MakesEventFrom};
 ghost use Rattle.melt_core.specs.Stages.{StoresFrom};
 ghost use Rattle.melt_core.specs.Views.{view};
 
@@ -20,9 +20,9 @@ impl Core {
     #[inline(always)]
     pub(crate) fn store(&mut self, thread: u32, op: Op, place: Place, src: u8) -> StepResult
         requires { (stage : Stage) × StoresFrom (Some stage) place src
-            × MayMoveFrom (view self.old) thread op stage }
-        ensures { (stage : Stage) → StoresFrom (Some stage) place src → MayMoveFrom (view self.old) thread op stage
-            → MovesFrom (view self.old) (view self.new) thread op stage result }
+            × MayMakeEventFrom (view self.old) thread op stage }
+        ensures { (stage : Stage) → StoresFrom (Some stage) place src → MayMakeEventFrom (view self.old) thread op stage
+            → MakesEventFrom (view self.old) (view self.new) thread op stage result }
     {
         let address = self.register(thread, src);
         self.set_word_in(place, held_word(address));
@@ -36,9 +36,9 @@ impl Core {
     // (inlined, so that no result is written to memory)
     #[inline(always)]
     pub(crate) fn put(&mut self, thread: u32, op: Op, cell: Cell, number: u64) -> StepResult
-        requires { MayMoveFrom (view self.old) thread op
+        requires { MayMakeEventFrom (view self.old) thread op
             (Stage.Headed cell.address cell.shape (Access.Put cell.j number)) }
-        ensures { MovesFrom (view self.old) (view self.new) thread op
+        ensures { MakesEventFrom (view self.old) (view self.new) thread op
             (Stage.Headed cell.address cell.shape (Access.Put cell.j number)) result }
     {
         let Cell { address, shape, j } = cell;

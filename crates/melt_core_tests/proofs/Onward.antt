@@ -14,7 +14,7 @@ use Rattle.melt_core.specs.declared.answer.StepResult.{StepResult}
 use Rattle.melt_core.specs.declared.answer.StepResult.TheVariants.{Going, Answered, Refused}
 use Rattle.melt_core.specs.declared.call.Call.{Call}
 use Rattle.melt_core.specs.Answering.{entry, with_entry}
-use Rattle.melt_core.specs.Advances.{AdvancesWhere, Continues, Goes, KeepsOthers, KeepsOwn, StepOutcome}
+use Rattle.melt_core.specs.Advances.{AdvancesWhere, Continues, CallGoesOn, KeepsOthers, KeepsOwn, StepOutcome}
 use Rattle.melt_core.specs.Stages.{events_left}
 use Rattle.melt_core.specs.Views.{View, call_of, stage_in, stage_of, Standing}
 
@@ -66,14 +66,15 @@ event_over tells disk {v} w t o (Refused why) ends is = refused_over tells disk 
 
 -- an event after which the call goes on
 pub going : (tells : Type 0) (disk : OnDisk) (v w : View) (t : ℕ) (o : Op) {result : StepResult} → result ≡ Going
-    → StepOutcome tells disk v w t o result → Goes disk v w t o
+    → StepOutcome tells disk v w t o result → CallGoesOn disk v w t o
 going tells disk v w t o is outcome = subst (StepOutcome tells disk v w t o) is outcome
 
-pub going_continues : (disk : OnDisk) (v w : View) (t : ℕ) (o : Op) → Goes disk v w t o → Continues (call_of w t) o
+pub going_continues : (disk : OnDisk) (v w : View) (t : ℕ) (o : Op) → CallGoesOn disk v w t o
+    → Continues (call_of w t) o
 going_continues disk v w t o is = subst (λ (c : Option Call). Continues c o) (sym is.call) refl
 
 pub going_nearer : (disk : OnDisk) (v w : View) (t : ℕ) (o : Op) (most : ℕ) → length v.forward ≤ most
-    → Goes disk v w t o → events_left most (stage_of w t) + 1 ≤ events_left most (stage_of v t)
+    → CallGoesOn disk v w t o → events_left most (stage_of w t) + 1 ≤ events_left most (stage_of v t)
 going_nearer disk v w t o most few is =
     let at : events_left most (stage_of w t) ≡ events_left most (Some is.stage) =
     ap (λ (c : Option Call). events_left most (stage_in c)) is.call in

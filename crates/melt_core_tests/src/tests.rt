@@ -229,7 +229,7 @@ fn leave(alloc: Global, words: u32, named: bool, calls: &[Wanted]) -> Result<Lef
     })
 }
 
-/// Makes one object, and reads and writes its parts, and answers how many entries of a history are stored behind that.
+/// Makes one object, and reads and writes its parts, and answers how many entries of a history are stored after that.
 /// Each call but one has an entry.
 fn entries_of_parts(alloc: Global, named: bool) -> Result<usize, Fail> {
     let calls = [
@@ -367,7 +367,7 @@ fn objects_that_are_made_at_once_stand_apart(rt: HostRuntime) -> Result<(), Fail
     )
 }
 
-/// Counts what registers hold on a new core, behind calls, and when one thread has let go of all.
+/// Counts what registers hold on a new core, after calls, and when one thread has let go of all.
 fn count_held(core: &mut Core) -> Result<(), Fail>
     requires stands { Standing false no_homes_on (view core.old) }
     requires quiet { IsQuiet (view core.old) }

@@ -29,7 +29,7 @@ SameOutside-apart : (old : List ℕ) (home m : ℕ) (new : List ℕ) → SameOut
 SameOutside-apart old home m new same at n (inl below) =
     same_words old new at n (λ i h. same.before (at + i) (omega arith))
 SameOutside-apart old home m new same at n (inr above) =
-    same_words old new at n (λ i h. same.behind (at + i) (omega arith))
+    same_words old new at n (λ i h. same.after (at + i) (omega arith))
 
 pub Writes-apart : (old : Option (List ℕ)) (at : ℕ) (words : List ℕ) (new : Option (List ℕ)) → Writes old at words new
     → KeepsApart old at (length words) new

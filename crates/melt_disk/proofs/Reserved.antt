@@ -26,7 +26,7 @@ Follow-lies (first ∷ homes) from end home follow (suc k, below, is) =
     let lies = Follow-lies homes (from + cost_of first.shape) end home follow.2 (k, omega (arith, below), is) in
     record { begins = omega (arith, lies.begins); shape = lies.shape; ends = lies.ends }
 
--- one more home behind them
+-- one more home after them
 pub Follow-more : (homes : List Home) (from end : ℕ) (home : Home) → AreAdjacent from homes end → home.at ≡ end
     → IsShape home.shape → AreAdjacent from (homes ++ home ∷ []) (end + cost_of home.shape)
 Follow-more [] from end home follow at shape = (at ∙ sym follow, shape, ap (λ n. n + cost_of home.shape) follow)

@@ -86,7 +86,7 @@ impl<'d, D: StaleDisk> StaleSpace<'d, D> {
         self.end
     }
 
-    /// Reserves the words of an object of the shape behind all homes, and answers the first of them.
+    /// Reserves the words of an object of the shape after all homes, and answers the first of them.
     pub fn reserve_home(&mut self, shape: Shape) -> Result<u32, DiskFull>
         requires { IsShape shape }
         ensures home { IfOk result (λ home. home ≡ self.old.end) }
@@ -146,7 +146,7 @@ impl<'d, D: StaleDisk> StaleSpace<'d, D> {
     }
 
     /// Writes the head of the Stub of an object of the shape at its home, as `write_body` does, and leaves the words
-    /// behind the head as they are. After an `Err` the two words of the head may be anything.
+    /// after the head as they are. After an `Err` the two words of the head may be anything.
     pub fn write_stub(&mut self, home: u32, shape: Shape, scion: u32) -> Result<(), Failed>
         requires lies { LiesIn 1 self.old.end (record { at = home; shape = shape }) }
         requires scion { IsScion scion }

@@ -6,7 +6,7 @@ use Rattle.std.proofs.lemmas.Bool.{false≢true}
 use Rattle.atomic_table.specs.declared.shared.Seat.{Seat}
 use Rattle.melt_rule.specs.Rule.{has_cause}
 use Rattle.melt_rule.specs.Seats.{EpochWords, IsSeat, knows_of}
-use Rattle.melt_rule.specs.Tells.{Asks, Names, view_behind}
+use Rattle.melt_rule.specs.Tells.{Asks, Names, view_after}
 use Rattle.melt_rule.specs.declared.began.Pair.{Pair}
 use Rattle.melt_rule.specs.declared.view.View.{View}
 use Rattle.melt_epoch.proofs.Following.{idle_seat, sound_sees}
@@ -15,20 +15,20 @@ use Rattle.melt_epoch.specs.Calls.{HasAsked, IsAsked}
 use Rattle.melt_epoch.specs.Mutators.{IsIdle, IsSeated}
 use Rattle.melt_epoch.specs.declared.mutator.Mutator.{Mutator}
 
--- what the view is behind it
-record Behind (v w : View) : Type 0 where
+-- what the view is after it
+record After (v w : View) : Type 0 where
   pub asked : Bool
-  pub is : w ≡ record (view_behind v w.seen v.known None) { asked = asked }
+  pub is : w ≡ record (view_after v w.seen v.known None) { asked = asked }
   pub cause : (has_cause v ≡ true → asked ≡ v.asked) × (has_cause v ≡ false → asked ≡ true)
 
-asked_behind : (v w : View) → Asks v w → Behind v w
-asked_behind v w asks = go (has_cause v) refl
+asked_after : (v w : View) → Asks v w → After v w
+asked_after v w asks = go (has_cause v) refl
   where
-    go : (b : Bool) → has_cause v ≡ b → Behind v w
+    go : (b : Bool) → has_cause v ≡ b → After v w
     go true is = record {
       asked = v.asked;
       is = asks.1
-          ∙ ap (λ (b : Bool). let u : View = view_behind v w.seen v.known None in
+          ∙ ap (λ (b : Bool). let u : View = view_after v w.seen v.known None in
           if b then u else record u { asked = true })
           is;
       cause = (λ e. refl, λ e. absurd (false≢true (sym e ∙ is)));
@@ -36,7 +36,7 @@ asked_behind v w asks = go (has_cause v) refl
     go false is = record {
       asked = true;
       is = asks.1
-          ∙ ap (λ (b : Bool). let u : View = view_behind v w.seen v.known None in
+          ∙ ap (λ (b : Bool). let u : View = view_after v w.seen v.known None in
           if b then u else record u { asked = true })
           is;
       cause = (λ e. absurd (false≢true (sym is ∙ e)), λ e. refl);
@@ -44,7 +44,7 @@ asked_behind v w asks = go (has_cause v) refl
 
 pub asks_has : (v w : View) → Asks v w → HasAsked v w
 asks_has v w asks =
-    let b = asked_behind v w asks in
+    let b = asked_after v w asks in
     record {
       sees = asks.0;
       is = asks.1;
@@ -64,11 +64,11 @@ asks_has v w asks =
     }
 
 module _ {R : Type 0} (m : Mutator R) (seat : Seat ℕ View) (is : Some seat ≡ m.seat) where
-  -- the mutator behind it
+  -- the mutator after it
   pub asked_again : (words : EpochWords) → IsSeated words m → (new : Seat ℕ View) → IsSeat words new
       → Asks (knows_of seat) (knows_of new) → IsSeated words (record m { seat = Some new })
   asked_again words seated new is_seat asks =
-      let b = asked_behind (knows_of seat) (knows_of new) asks in
+      let b = asked_after (knows_of seat) (knows_of new) asks in
       let idle : IsIdle words seat = idle_here words m seated seat is in
       let same : seated.seat ≡ seat = let both : Some seat ≡ Some seated.seat = is ∙ seated.there in cc in
       record {

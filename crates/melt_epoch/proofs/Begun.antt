@@ -60,9 +60,9 @@ module _ (start : Start) (heap : Heap) (end : ℕ) (history : List Entry) (begin
 
   words_size : length (words_of_heap heap) ≡ globals_from + b.globals + b.forwards + b.size
   words_size =
-      let behind = length-append heap.forward heap.space.list in
+      let after = length-append heap.forward heap.space.list in
       let all = length-append heap.globals (heap.forward ++ heap.space.list) in
-      omega (arith, behind, all, begins.size, begins.globals, begins.forwards)
+      omega (arith, after, all, begins.size, begins.globals, begins.forwards)
 
   pub words_begin : {R : Type 0} (image : R → Option (List ℕ)) (ms : List (Mutator R)) → MutatorsBegin image start ms
       → heap.space.used ≤ length heap.space.list → MayBegin start (words_of_heap heap)

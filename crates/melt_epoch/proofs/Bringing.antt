@@ -23,7 +23,7 @@ use Rattle.melt_rule.specs.declared.view.View.{View}
 use Rattle.melt_epoch.proofs.Following.{counts_most}
 use Rattle.melt_epoch.proofs.Toward.{Toward, goes_then, goes_toward, toward_full, toward_goes, toward_itself}
 use Rattle.melt_epoch.proofs.Toward.{toward_lacked}
-use Rattle.melt_epoch.specs.Bringing.{Brings, Brought, IsLost, LacksEither, LacksRoom, Misses, Seeks, Stays}
+use Rattle.melt_epoch.specs.Bringing.{Brings, Brought, IsLost, LacksEither, LacksRoomForCopy, Misses, Seeks, Stays}
 use Rattle.melt_epoch.specs.Bringing.{in_use_at, tried_to}
 use Rattle.melt_epoch.specs.Epochs.{Fits}
 use Rattle.melt_epoch.specs.Fetching.{BodyFetched, Fetches, IsUnread, OfDisk}
@@ -58,7 +58,7 @@ unread_lost {words} {heap} image {end} home before after (refusal.Damaged damage
 )
 unread_lost {words} {heap} image {end} home before after (refusal.Pause pause) fits tells has none = none
 
--- what is known behind a search was known before
+-- what is known after a search was known before
 home_has_here : (v w : View) (home : ℕ) (z : Shape) (u : View) → w.began ≡ v.began → HomeHas w u.seen home z
     → HomeHas v u.seen home z
 home_has_here v w home z u began has told =
@@ -68,7 +68,7 @@ home_has_here v w home z u began has told =
     )
 
 pub lacks_on : {v w u : View} (search : Search) (tried : ℕ) {m n : ℕ} (k : ℕ) {why : Refusal} → m + n ≤ k
-    → Toward v w 0 0 m → LacksRoom w u (tried_to search tried) n why → LacksRoom v u search k why
+    → Toward v w 0 0 m → LacksRoomForCopy w u (tried_to search tried) n why → LacksRoomForCopy v u search k why
 lacks_on {v} {w} {u} search tried k le toward lacks = record {
   shape = lacks.shape;
   small = lacks.small;

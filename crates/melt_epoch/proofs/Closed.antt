@@ -36,7 +36,7 @@ use Rattle.melt_epoch.proofs.Gathered.{Back, all_flag, all_has, all_only, all_su
 use Rattle.melt_epoch.proofs.Gathered.{comes_back, contains_at, gathered_first, some_cause, stands_at}
 use Rattle.melt_epoch.proofs.Paired.{pairs_name, pairs_with}
 use Rattle.melt_epoch.specs.Ends.{HasEnded, HeapEnds, HistoryEnds, HoldsValues, MapsEnd}
-use Rattle.melt_epoch.specs.Ends.{MayEnd, disk_of, free_behind, view_of}
+use Rattle.melt_epoch.specs.Ends.{MayEnd, disk_of, free_after, view_of}
 use Rattle.melt_epoch.specs.Epochs.{Fits}
 use Rattle.melt_epoch.specs.Gathering.{PutsBack, gathered_all}
 use Rattle.melt_epoch.specs.declared.mutator.Mutator.{Mutator}
@@ -175,7 +175,7 @@ module _ {R : Type 0} (words : EpochWords) (ms : List (Mutator R)) (may : MayEnd
   won_is : v.won ≡ sum_by (λ (m : Mutator R). (view_of m).won) ms
   won_is = ap (λ (x : View). x.won) gathers ∙ all_sum (λ (x : View). x.won) (λ x w. refl) refl ms
 
-  free_is : slice_index ended free_place ≡ free_behind b ms
+  free_is : slice_index ended free_place ≡ free_after b ms
   free_is = has.counts.free ∙ ap (λ (n : ℕ). b.free + n) claimed_is
 
   nameless_is : new.names ≡ None
@@ -190,7 +190,7 @@ module _ {R : Type 0} (words : EpochWords) (ms : List (Mutator R)) (may : MayEnd
     nameless = nameless_is;
     used = puts.used
         ∙ (ap (λ (n : ℕ). min (n - 1) (length old.space.list)) free_is
-        ∙ ap (λ (n : ℕ). min (free_behind b ms - 1) n) fits.size);
+        ∙ ap (λ (n : ℕ). min (free_after b ms - 1) n) fits.size);
     won = ap (λ (l : List ℕ). filled_count (slice_index l) b.forwards) new_forwards ∙ (has.counts.won ∙ won_is);
     spaced = λ k d below is. subst (λ (n : ℕ). b.size + 1 < n) free_is (has.counts.spaced
         (ap (λ (x : View). x.spaced) gathers ∙ all_flag (λ (x : View). x.spaced) (λ x w. refl) ms k d below is));
@@ -250,7 +250,7 @@ module _ {R : Type 0} (words : EpochWords) (ms : List (Mutator R)) (may : MayEnd
       subst (λ (word : ℕ → ℕ). BitsTold (first_sight b)
       (record { log = v.seen; maps = has.maps; word = word; stage = no_calls })) same_words_end (has.bits told)
 
-  -- The heap behind the epoch, where its pairs were picked.
+  -- The heap after the epoch, where its pairs were picked.
   pub epoch_ended : pairs ≡ record { addresses = pairs_with v.known b.maps.addresses; homes = b.maps.homes }
       → HasEnded b ms new v.seen
   epoch_ended picked = record {

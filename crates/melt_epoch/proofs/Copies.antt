@@ -19,7 +19,7 @@ use Rattle.melt_rule.specs.declared.view.Doing.TheVariants.{Copied, Copying}
 use Rattle.melt_rule.specs.declared.view.View.{View}
 use Rattle.melt_epoch.proofs.Following.{sees_on, shape_stays}
 use Rattle.melt_epoch.proofs.Toward.{Toward, goes_toward, toward_both, toward_full, toward_on, toward_then}
-use Rattle.melt_epoch.specs.Bringing.{Copies, IsFilled, LacksRoom, SettlesCopy}
+use Rattle.melt_epoch.specs.Bringing.{Copies, IsFilled, LacksRoomForCopy, SettlesCopy}
 use Rattle.melt_record.specs.declared.head.Kind.TheVariants.{Body}
 use Rattle.melt_scion.specs.Placed.{HeadIs}
 use Rattle.melt_rule.specs.Shown.{base_at}
@@ -44,7 +44,7 @@ lacks_cause v w search z lacks = ap has_cause lacks.is ∙ spaced_cause v.asked 
 
 -- and then it was refused
 pub lacks_room : (v w u : View) (search : Search) (z : Shape) → IsShape z → LacksCopy v w search z
-    → Reaches w u None → LacksRoom v u search 2 (Pause (Space (cost_of z)))
+    → Reaches w u None → LacksRoomForCopy v u search 2 (Pause (Space (cost_of z)))
 lacks_room v w u search z small lacks stops =
     let is = lacks.is in
     let then_ = stops.is in
@@ -111,19 +111,19 @@ module _ (v w u x y : View) (search : Search) (z : Shape) (rest : List ℕ) (add
   abbrev copy : Activation
   copy = record { search = search; address = address; shape = z }
 
-  behind_claim : Toward w x 0 0 (cost_of z)
-  behind_claim =
+  after_claim : Toward w x 0 0 (cost_of z)
+  after_claim =
       let all = filled.all in
       toward_on (cost_of z) (omega arith) (goes_toward w u 0 0 filled.stored (Copying copy filled.stored) filled.goes)
       heads
 
   to_copy : Toward v x (cost_of z) 0 (cost_of z + 1)
   to_copy =
-      toward_both (cost_of z + 1) (omega arith) (claimed_toward v w search z rest address claims) behind_claim
+      toward_both (cost_of z + 1) (omega arith) (claimed_toward v w search z rest address claims) after_claim
 
   shape_here : Sees x y.seen → HomeHas v y.seen search.home z
   shape_here sees =
-      home_has_on v v w.seen y.seen search.home z refl (behind_claim.on y.seen sees).begins claims.object
+      home_has_on v v w.seen y.seen search.home z refl (after_claim.on y.seen sees).begins claims.object
 
   pub copy_settles : (result : Result ℕ Refusal) → SettlesCopy x y copy forwards result
       → Copies v y search z forwards result

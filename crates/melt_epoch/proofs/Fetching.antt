@@ -141,7 +141,7 @@ stub_dead {image} {scions} {end} {home} {scion} z {damaged} head dead =
       });
     }))
 
--- or a slot behind it is none
+-- or a slot after it is none
 pub rest_broken : (image : Option (List ℕ)) (scions : Scions) (end home : ℕ) (z : Shape) (damaged : Damaged)
     → HeadRead image end home (record { shape = z; kind = Body }) → RestBroken image end home z damaged
     → IsDamaged image scions end home damaged
@@ -155,7 +155,7 @@ rose_before before between after first more rose small = elim (cases_lt between 
   | inr past ↦ omega arith
 ]
 
--- a head was read, and not the words behind it, so no record
+-- a head was read, and not the words after it, so no record
 pub rest_unread : {image : Option (List ℕ)} (scions : Scions) {end home : ℕ} (before between after : ℕ) (z : Shape)
     (refusal : Refusal) → before ≤ between → between ≤ after
     → HeadRead image end home (record { shape = z; kind = Body })

@@ -1,4 +1,4 @@
--- Steps one behind the other: what a seat has seen and counted on the way of a call.
+-- Steps one after the other: what a seat has seen and counted on the way of a call.
 use Rattle.std.proofs.Common.{◌≡◌, ℕ, ◌+◌, ◌≤◌, false, List, [], ◌∷◌, ◌++◌, length}
 use Rattle.std.proofs.Common.{refl, sym, ◌∙◌, ap, subst, arith, append_assoc}
 use Rattle.std.proofs.lemmas.List.{append_cancel_right}
@@ -14,7 +14,7 @@ use Rattle.melt_core.specs.Answering.{entry}
 use Rattle.melt_rule.specs.Making.{FirstFree}
 use Rattle.melt_rule.specs.Rule.{is_bound}
 use Rattle.melt_rule.specs.Seats.{EpochWords, IsSeat, knows_of}
-use Rattle.melt_rule.specs.Tells.{Adds, HasAll, Reaches, Sees, Since, view_behind}
+use Rattle.melt_rule.specs.Tells.{Adds, HasAll, Reaches, Sees, Since, view_after}
 use Rattle.melt_rule.specs.declared.began.Began.{Began}
 use Rattle.melt_rule.specs.declared.began.Pair.{Pair}
 use Rattle.melt_rule.specs.declared.view.Doing.{Doing}
@@ -44,9 +44,9 @@ no_counts v = record {
   counted = omega arith;
 }
 
-behind_counts : (v : View) (h : List Entry) (known : List Pair) (doing : Option Doing) → HasAll v.known known
-    → Counts v (view_behind v h known doing) 0 0 1
-behind_counts v h known doing more = record {
+after_counts : (v : View) (h : List Entry) (known : List Pair) (doing : Option Doing) → HasAll v.known known
+    → Counts v (view_after v h known doing) 0 0 1
+after_counts v h known doing more = record {
   thread = refl;
   parts = refl;
   away = refl;
@@ -97,7 +97,7 @@ counts_most v w a b m n le counts = record {
   counted = counts.counted;
 }
 
--- the first free place that a claim found, told behind a way that claimed none
+-- the first free place that a claim found, told after a way that claimed none
 pub first_on : (v w : View) (most found : ℕ) → Counts v w 0 0 most → FirstFree w found → FirstFree v found
 first_on v w most found counts first = record {
   from =
@@ -117,14 +117,14 @@ first_on v w most found counts first = record {
 
 -- a step to a view that is told
 pub step_counts : (v w : View) (known : List Pair) (doing : Option Doing) → HasAll v.known known
-    → w ≡ view_behind v w.seen known doing → Counts v w 0 0 1
+    → w ≡ view_after v w.seen known doing → Counts v w 0 0 1
 step_counts v w known doing more is =
-    subst (λ (x : View). Counts v x 0 0 1) (sym is) (behind_counts v w.seen known doing more)
+    subst (λ (x : View). Counts v x 0 0 1) (sym is) (after_counts v w.seen known doing more)
 
 pub idle_way : (v : View) → Sees v v.seen → Way v v 0 0 0
 idle_way v sound = record { sees = sound; counts = no_counts v }
 
--- what came behind what was seen, behind a way
+-- what came after what was seen, after a way
 pub sees_on : (v w : View) (h : List Entry) → Sees v w.seen → w.thread ≡ v.thread → w.began ≡ v.began → Sees w h
     → Sees v h
 sees_on v w h first thread began more = record {
@@ -139,7 +139,7 @@ sees_on v w h first thread began more = record {
   own_same = ap (own h) (sym thread) ∙ (more.own_same ∙ (ap (own w.seen) thread ∙ first.own_same));
 }
 
--- and an entry behind it
+-- and an entry after it
 pub adds_on : (v w : View) (h : List Entry) (act : Act) → Sees v w.seen → w.thread ≡ v.thread → w.began ≡ v.began
     → Adds w h act → Adds v h act
 adds_on v w h act first thread began more =
@@ -212,7 +212,7 @@ pub shape_stays : (g h more : List Entry) (n : ℕ) (z : Shape) → g ++ more �
 shape_stays g h more n z is at =
     ap (λ (l : List Entry). shape l n) (sym is) ∙ (shape-append g more n (was_made g n z at) ∙ at)
 
--- the seat behind a call
+-- the seat after a call
 pub idle_seat : (words : EpochWords) (v : View) (seat : Seat ℕ View) (doing : Option Doing) → IsSeat words seat
     → (knows_of seat).doing ≡ doing → is_bound doing ≡ false → Sees (knows_of seat) (knows_of seat).seen
     → (knows_of seat).mine ≡ (knows_of seat).seen → IsIdle words seat

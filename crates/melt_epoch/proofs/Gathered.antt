@@ -10,7 +10,7 @@ use Rattle.std.specs.Prelude.{All, Contains}
 use lib.ListN.{get_elem?}
 use mathlib.Core.Option.{some, some-injective, some-ne-none}
 use Rattle.atomic_table.proofs.Lists.{at_longer}
-use Rattle.melt_rule.proofs.Pieces.{at_append, at_behind}
+use Rattle.melt_rule.proofs.Pieces.{at_append, at_after}
 use Rattle.melt_rule.specs.Giving.{joined_view, spent_view}
 use Rattle.melt_rule.specs.Rule.{Has, has_cause, threads_of}
 use Rattle.melt_rule.specs.Seats.{EpochWords, knows_of}
@@ -26,7 +26,7 @@ has_left : (l m : List Pair) (a n : ℕ) → Has l a n → Has (l ++ m) a n
 has_left l m a n x = (x.0, at_longer l m x.0 (record { address = a; object = n }) x.1)
 
 has_right : (l m : List Pair) (a n : ℕ) → Has m a n → Has (l ++ m) a n
-has_right l m a n x = (length l + x.0, at_behind l m x.0 (record { address = a; object = n }) x.1)
+has_right l m a n x = (length l + x.0, at_after l m x.0 (record { address = a; object = n }) x.1)
 
 has_either : (l m : List Pair) (a n : ℕ) → Has (l ++ m) a n → Has l a n ⊎ Has m a n
 has_either l m a n x = elim (at_append l m x.0 (record { address = a; object = n }) x.1) [
@@ -47,7 +47,7 @@ pub contains_at : (l : List ℕ) (p t : ℕ) → get_elem? l p ≡ some t → Co
 contains_at [] p t at = absurd (some-ne-none t (sym at))
 contains_at (x ∷ l) zero t at = (0, omega arith, some-injective x t at)
 contains_at (x ∷ l) (suc p) t at =
-    let behind = contains_at l p t at in (suc behind.0, (let below = behind.1 in omega arith), behind.2)
+    let after = contains_at l p t at in (suc after.0, (let below = after.1 in omega arith), after.2)
 
 module _ {R : Type 0} where
   -- What the seat of a mutator knows that comes back.
@@ -155,8 +155,8 @@ module _ {R : Type 0} where
 
   -- What is so of the whole was so of one of them, where it is so of two together only by one of the two.
   module _ (Is : View → Type 0) (splits : (v w : View) → Is (joined_view v w) → Is v ⊎ Is w) where
-    some_behind : (x : Mutator R) (ms : List (Mutator R)) → SomeView ms Is → SomeView (x ∷ ms) Is
-    some_behind x ms one = record { place = suc one.place; mutator = one.mutator; at = one.at; is = one.is }
+    some_after : (x : Mutator R) (ms : List (Mutator R)) → SomeView ms Is → SomeView (x ∷ ms) Is
+    some_after x ms one = record { place = suc one.place; mutator = one.mutator; at = one.at; is = one.is }
 
     gathered_some : (v : View) (ms : List (Mutator R)) → Is (gathered v (map view_of ms)) → Is v ⊎ SomeView ms Is
     gathered_some v [] is = inl is
@@ -165,14 +165,14 @@ module _ {R : Type 0} where
         | inl first ↦ inl first
         | inr here ↦ inr (record { place = 0; mutator = m; at = refl; is = here })
       ]
-      | inr more ↦ inr (some_behind m ms more)
+      | inr more ↦ inr (some_after m ms more)
     ]
 
     all_some : (Is spent_view → ⊥) → (ms : List (Mutator R)) → Is (gathered_all (map view_of ms)) → SomeView ms Is
     all_some none [] is = absurd (none is)
     all_some none (m ∷ ms) is = elim (gathered_some (view_of m) ms is) [
       | inl here ↦ record { place = 0; mutator = m; at = refl; is = here }
-      | inr more ↦ some_behind m ms more
+      | inr more ↦ some_after m ms more
     ]
 
   -- nothing else is known

@@ -23,14 +23,14 @@ giver_at start k = record (first_view start) {
   away = map (away_at start) (drop k start.began.threads);
 }
 
-behind_first : (start : Start) (ts : List ℕ) → map (away_at start) (others_of ts) ≡ map (away_at start) (drop 1 ts)
-behind_first start [] = refl
-behind_first start (t ∷ ts) = refl
+after_first : (start : Start) (ts : List ℕ) → map (away_at start) (others_of ts) ≡ map (away_at start) (drop 1 ts)
+after_first start [] = refl
+after_first start (t ∷ ts) = refl
 
 pub giver_first : (start : Start) → first_view start ≡ giver_at start 1
 giver_first start = λ i. record (first_view start) {
   parts = (let same : length start.began.threads ≡ length start.began.threads + 1 - 1 = omega arith in same) i;
-  away = behind_first start start.began.threads i;
+  away = after_first start start.began.threads i;
 }
 
 module _ (start : Start) (k : ℕ) (below : k < length start.began.threads) where

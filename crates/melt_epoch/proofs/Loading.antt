@@ -1,4 +1,4 @@
--- The answers of a load behind its look, by what its steps told.
+-- The answers of a load after its look, by what its steps told.
 use Rattle.std.proofs.Common.{◌≡◌, ◌⊎◌, ℕ, ◌+◌, ◌<◌, ◌≤◌, Bool, true, false, inl, inr, List, [], ◌∷◌, ◌++◌, Ok, Err}
 use Rattle.std.proofs.Common.{refl, sym, ◌∙◌, ap, subst, arith, append_assoc}
 use Rattle.std.proofs.lemmas.List.{append_cancel_right}
@@ -71,12 +71,12 @@ begins_adds u h act adds = (
   sym (append_assoc u.seen adds.between (entry u.thread act ∷ [])) ∙ sym adds.seen,
 )
 
--- an entry behind a way
-loads_behind : {v u x : View} {s : Slot} {words wins m : ℕ} (most : ℕ) {address : ℕ} → m + 1 ≤ most → Sees v u.seen
+-- an entry after a way
+loads_after : {v u x : View} {s : Slot} {words wins m : ℕ} (most : ℕ) {address : ℕ} → m + 1 ≤ most → Sees v u.seen
     → Counts v u words wins m → Reads u x s address
     → ((words ≡ 0) × (wins ≡ 0)) ⊎ ((z : Shape) × (words ≡ cost_of z) × (wins ≤ 1) × HeldHas v x s z)
     → Loads v x s most address
-loads_behind {v} {u} {x} {s} {words} {wins} {m} most le sees counts reads claims = record {
+loads_after {v} {u} {x} {s} {words} {wins} {m} most le sees counts reads claims = record {
   value = reads.value;
   adds = adds_on v u x.seen (Read s reads.value) sees counts.thread counts.began reads.adds;
   names = reads.names;
@@ -123,7 +123,7 @@ pub stale_loads : {v w u x : View} {s : Slot} {looked cleared : Doing} (most : �
 stale_loads {v} {w} {u} most few looks clears reads =
     let first : Toward v w 0 0 1 = toward_on 1 (omega arith) (toward_itself v) looks in
     let then_ : Toward v u 0 0 2 = toward_on 2 (omega arith) first clears in
-    loads_behind most few (first.on u.seen clears.sees) then_.counts reads (inl (refl, refl))
+    loads_after most few (first.on u.seen clears.sees) then_.counts reads (inl (refl, refl))
 
 pub stale_slot : {v w u : View} (place : Place) (s : Slot) {looked cleared : Doing} → Reaches v w (Some looked)
     → Reaches w u (Some cleared) → KnownSlot v.known place s → KnownSlot u.known place s
@@ -169,7 +169,7 @@ module _ (v w : View) (s : Slot) (place : Place) (home : ℕ) (finds : Finds v w
       let goes = goes_then (n + 1) (omega arith) looked_toward brought.goes in
       let last_ : Begins u.seen x.seen = begins_adds u x.seen (Read s reads.value) reads.adds in
       let all : Begins w.seen x.seen = begins_then w.seen u.seen x.seen brought.goes.sees.begins last_ in
-      loads_behind most (omega arith) goes.sees goes.counts reads (elim brought.claims [
+      loads_after most (omega arith) goes.sees goes.counts reads (elim brought.claims [
         | inl none ↦ inl none
         | inr some_ ↦ inr (
           some_.0,
@@ -232,7 +232,7 @@ looks_cause v w s place (Clean address) reads = ap has_cause reads.is
 looks_cause v w s place (Stale address) reaches = ap has_cause reaches.is
 looks_cause v w s place (Disk home) finds = ap has_cause finds.reaches.is
 
--- a load behind a way
+-- a load after a way
 module _ (v u x : View) (s : Slot) (m n k : ℕ) (le : m + n ≤ k) (way : Way v u 0 0 m) where
   toward_way : Toward v u 0 0 m
   toward_way = record {
@@ -313,7 +313,7 @@ module _ (v u x : View) (s : Slot) (m n k : ℕ) (le : m + n ≤ k) (way : Way v
     lost = lost.lost;
   }))
 
--- the seat behind a load
+-- the seat after a load
 module _ (words : EpochWords) (v : View) (seat : Seat ℕ View) (s : Slot) (k : ℕ) (is_seat : IsSeat words seat)
     (own : (knows_of seat).mine ≡ (knows_of seat).seen) where
   idle_by : MayGoOn (knows_of seat) → Sees (knows_of seat) (knows_of seat).seen → IsIdle words seat
@@ -381,7 +381,7 @@ shaped_before {v} {u} x {act} n {z} all last_ thread at =
     (ap (λ (t : ℕ). (u.seen ++ last_.between) ++ entry t act ∷ []) (sym thread) ∙ (sym last_.seen ∙ all.seen)))
     at
 
--- a load of a slot, behind the header of its object
+-- a load of a slot, after the header of its object
 module _ {v w u : View} {address : ℕ} {z : Shape} {value : Value} (h : Opened v w u address z value) where
   opened_way : Way v u 0 0 2
   opened_way = headed_way v w u address h.object z h.sound h.polls h.heads

@@ -12,7 +12,7 @@ use Rattle.melt_core.specs.Answering.{entry}
 use Rattle.melt_rule.proofs.Loads.{snoc_here, snoc_old}
 use Rattle.melt_rule.specs.Making.{Claims, Lacks, Makes as Publishes}
 use Rattle.melt_rule.specs.Rule.{Has}
-use Rattle.melt_rule.specs.Tells.{Adds, HasAll, Polls, Reaches, Sees, Stops, view_behind}
+use Rattle.melt_rule.specs.Tells.{Adds, HasAll, Polls, Reaches, Sees, Stops, view_after}
 use Rattle.melt_rule.specs.declared.began.Began.{Began}
 use Rattle.melt_rule.specs.declared.began.Pair.{Pair}
 use Rattle.melt_rule.specs.declared.view.Doing.{Doing}
@@ -20,7 +20,7 @@ use Rattle.melt_rule.specs.declared.view.Doing.TheVariants.{Claimed}
 use Rattle.melt_rule.specs.declared.view.View.{View}
 use Rattle.melt_epoch.proofs.Following.{Way, adds_on, counts_on, first_on, idle_way, no_counts, reach_way, sees_on}
 use Rattle.melt_epoch.proofs.Following.{sound_sees, step_counts}
-use Rattle.melt_epoch.specs.Calls.{Counts, FillsRegion, LacksRoom, Made}
+use Rattle.melt_epoch.specs.Calls.{Counts, FillsRegion, LacksRoomToMake, Made}
 use Rattle.melt_core.specs.declared.answer.Pause.TheVariants.{Space}
 use Rattle.melt_core.specs.declared.answer.Refusal.TheVariants.{Pause}
 
@@ -37,9 +37,9 @@ fills_more v w u address k fills step z is =
     let more = reach_way way reaches in
     record { sees = more.sees; counts = more.counts; at = ap (λ (x : View). x.doing) reaches.is }
 
--- behind a claim that fits
+-- after a claim that fits
 claimed_counts : (v : View) (h : List Entry) (doing : Option Doing) (cost : ℕ)
-    → Counts v (record (view_behind v h v.known doing) { claimed = v.claimed + cost }) cost 0 1
+    → Counts v (record (view_after v h v.known doing) { claimed = v.claimed + cost }) cost 0 1
 claimed_counts v h doing cost = record {
   thread = refl;
   parts = refl;
@@ -68,7 +68,7 @@ claimed_way v w u address cost sound polls claims =
           (counts_on way.counts step);
     }
 
--- behind its stores and the store of the header
+-- after its stores and the store of the header
 pub made_it : {v w u : View} (x y : View) {address : ℕ} (z : Shape) (claims : Claims w u address (cost_of z))
     → Sees v v.seen → Polls v w false → FillsRegion u x address (cost_of z - 1) → Publishes x y address z
     → 1 ≤ cost_of z → Made v y z address
@@ -116,9 +116,9 @@ made_it {v} {w} {u} x y {address} z claims sound polls fills publishes some_ =
       counted = counts.counted;
     }
 
--- behind a claim that does not fit, and the stop word
+-- after a claim that does not fit, and the stop word
 pub lacked_it : (v w u x : View) (z : Shape) → Sees v v.seen → Polls v w false → Lacks w u (cost_of z) → Stops u x
-    → LacksRoom v x z (Pause (Space (cost_of z)))
+    → LacksRoomToMake v x z (Pause (Space (cost_of z)))
 lacked_it v w u x z sound polls lacks stops =
     let way = reach_way (idle_way v sound) polls.0 in
     let first = way.counts in

@@ -1,4 +1,4 @@
--- The pairs of the maps behind an epoch.
+-- The pairs of the maps after an epoch.
 use Rattle.std.proofs.Common.{◌≡◌, ◌⊎◌, ℕ, zero, suc, eqb, List, [], ◌∷◌, ◌++◌}
 use Rattle.std.proofs.Common.{map, refl, sym, ◌∙◌, ap, inl, inr}
 use Rattle.std.proofs.lemmas.Bool.{cases_eq, eq-eqb, ne_eqb, cond-true, cond-false}
@@ -37,7 +37,7 @@ named_only (p ∷ ps) old a n is = elim (cases_eq p.address a) [
       inr (0, λ i. some (record { address = same i; object = object i }))
   | inr other ↦ elim (named_only ps old a n (sym (else_named p ps old a other) ∙ is)) [
     | inl before ↦ inl before
-    | inr behind ↦ inr (suc behind.0, behind.1)
+    | inr after ↦ inr (suc after.0, after.1)
   ]
 ]
 

@@ -20,7 +20,7 @@ use Rattle.melt_core.specs.declared.answer.Pause.TheVariants.{Asked}
 use Rattle.melt_core.specs.declared.answer.Refusal.TheVariants.{Pause}
 use Rattle.melt_rule.specs.Rule.{Has}
 use Rattle.melt_rule.specs.Seats.{EpochWords, IsSeat, SpeaksOf, knows_of}
-use Rattle.melt_rule.specs.Tells.{Adds, Ends, HasAll, Heads, Names, Polls, Sees, view_behind}
+use Rattle.melt_rule.specs.Tells.{Adds, Ends, HasAll, Heads, Names, Polls, Sees, view_after}
 use Rattle.melt_rule.specs.declared.began.Began.{Began}
 use Rattle.melt_rule.specs.declared.view.Doing.TheVariants.{Headed}
 use Rattle.melt_rule.specs.declared.view.View.{View}
@@ -43,7 +43,7 @@ held_nothing words seat address value idle (inl none) is = none.1
 held_nothing words seat address value idle (inr object) is =
     let first = (idle.is_seat.within.known address object.0 object.2).0 in absurd (omega arith)
 
--- answered without an entry, behind a way
+-- answered without an entry, after a way
 pub way_replies : {v w : View} {a b most : ℕ} (rs : List Value) (o : Op) (r : Reply) → Way v w a b most
     → (v.began.told ≡ true → Answers v.thread w.seen rs o r w.seen rs) → Replies v w rs rs o r
 way_replies {v} {w} rs o r way answers = record {
@@ -85,7 +85,7 @@ nil_plain v rs o most sound nothing =
       refused = tt;
     }
 
-pub asked_counts : (v w : View) → w ≡ record (view_behind v w.seen v.known None) { stopped = true } → Counts v w 0 0 1
+pub asked_counts : (v w : View) → w ≡ record (view_after v w.seen v.known None) { stopped = true } → Counts v w 0 0 1
 asked_counts v w is = record {
   thread = ap (λ (x : View). x.thread) is;
   parts = ap (λ (x : View). x.parts) is;
@@ -147,15 +147,15 @@ headed_idle {words} {v} {w} {seat} {address} {n} {z} sound polls heads is_seat =
     (sound_sees v (knows_of seat) way.sees way.counts.began)
     (ap (λ (x : View). x.mine) heads.reaches.is)
 
--- What a call tells that ends with an entry, behind poll and head.
-pub record EndsBehind (v x : View) (act : Act) (n : ℕ) (z : word.Shape) : Type 0 where
+-- What a call tells that ends with an entry, after poll and head.
+pub record EndsAfter (v x : View) (act : Act) (n : ℕ) (z : word.Shape) : Type 0 where
   pub adds : Adds v x.seen act
   pub counts : Counts v x 0 0 3
   pub shaped : v.began.told ≡ true → shape (v.seen ++ adds.between) n ≡ Some (shape_of z)
 
-pub ends_behind : {v w u x : View} {act : Act} {address n : ℕ} {z : word.Shape} → Sees v v.seen → Polls v w false
-    → Heads w u address n z → Ends u x act → EndsBehind v x act n z
-ends_behind {v} {w} {u} {x} {act} {address} {n} {z} sound polls heads ends =
+pub ends_after : {v w u x : View} {act : Act} {address n : ℕ} {z : word.Shape} → Sees v v.seen → Polls v w false
+    → Heads w u address n z → Ends u x act → EndsAfter v x act n z
+ends_after {v} {w} {u} {x} {act} {address} {n} {z} sound polls heads ends =
     let way = headed_way v w u address n z sound polls heads in
     let began : w.began ≡ v.began = ap (λ (y : View). y.began) polls.0.is in
     let adds : Adds v x.seen act = adds_on v u x.seen act way.sees way.counts.thread way.counts.began ends.adds in
@@ -169,7 +169,7 @@ ends_behind {v} {w} {u} {x} {act} {address} {n} {z} sound polls heads ends =
           (heads.shaped (ap (λ (b : Began). b.told) began ∙ told));
     }
 
--- and behind poll alone
+-- and after poll alone
 pub ends_polled : (v w x : View) (act : Act) → Sees v v.seen → Polls v w false → Ends w x act
     → Adds v x.seen act × Counts v x 0 0 2
 ends_polled v w x act sound polls ends =
@@ -185,7 +185,7 @@ ended_idle words v u seat act adds counts ends is_seat =
     (sound_adds v (knows_of seat) act adds counts.began)
     (ap (λ (x : View). x.mine) ends.is)
 
--- what was known before a read of the stop word is known behind it
+-- what was known before a read of the stop word is known after it
 pub polled_knows : (v w : View) (a n : ℕ) → Polls v w false → Has v.known a n → Has w.known a n
 polled_knows v w a n polls has = subst (λ (x : View). Has x.known a n) (sym polls.0.is) has
 
@@ -194,7 +194,7 @@ pub headed_knows : (v : View) {w u : View} (a n : ℕ) {address m : ℕ} {z : wo
 headed_knows v {w} a n polls heads has =
     subst (λ (x : View). Has x.known a n) (sym heads.reaches.is) (polled_knows v w a n polls has)
 
--- What a call knows of the object in a register, behind the load of its header.
+-- What a call knows of the object in a register, after the load of its header.
 pub record Opened (v w u : View) (address : ℕ) (z : word.Shape) (value : Value) : Type 0 where
   pub object : ℕ
   pub is : value ≡ Ref object
@@ -235,14 +235,14 @@ module _ {v w u : View} {address : ℕ} {z : word.Shape} {value : Value} where
 
   -- and then ends with an entry
   pub opened_ends : (x : View) (act : Act) (h : Opened v w u address z value) → Ends u x act
-      → EndsBehind v x act h.object z
-  opened_ends x act h ends = ends_behind h.sound h.polls h.heads ends
+      → EndsAfter v x act h.object z
+  opened_ends x act h ends = ends_after h.sound h.polls h.heads ends
 
   pub opened_ended : (words : EpochWords) (seat : Seat ℕ View) (act : Act) → Opened v w u address z value
       → Ends u (knows_of seat) act → IsSeat words seat → IsIdle words seat
   opened_ended words seat act h ends is_seat =
-      let behind = opened_ends (knows_of seat) act h ends in
-      ended_idle words v u seat act behind.adds behind.counts ends is_seat
+      let after = opened_ends (knows_of seat) act h ends in
+      ended_idle words v u seat act after.adds after.counts ends is_seat
 
 pub opened_idle : {v w : View} {address : ℕ} {z : word.Shape} {value : Value} (words : EpochWords) (seat : Seat ℕ View)
     → Opened v w (knows_of seat) address z value → IsSeat words seat → IsIdle words seat

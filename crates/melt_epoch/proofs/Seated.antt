@@ -44,7 +44,7 @@ stand_set known regs values r address value has_value has_reg stand names q = el
       (subst (Names known (slice_index regs q)) (sym val) (stand q))
 ]
 
--- what is so of two seats is so of those that a mutator has before and behind
+-- what is so of two seats is so of those that a mutator has before and after
 pub by_seats : (P : View → View → Type 0) {seat new s t : Seat ℕ View} {before after : Option (Seat ℕ View)}
     → Some seat ≡ before → after ≡ Some new → before ≡ Some s → after ≡ Some t → P (knows_of seat) (knows_of new)
     → P (knows_of s) (knows_of t)
@@ -67,7 +67,7 @@ module _ {R : Type 0} (words : EpochWords) (m : Mutator R) (seated : IsSeated wo
       subst (λ (s : Seat ℕ View). Names (knows_of s).known (slice_index m.registers.regs r) (value_in m.values r))
       same_seat (seated.registers r)
 
-  -- the mutator behind a call that leaves its registers
+  -- the mutator after a call that leaves its registers
   pub seated_by : (new : Seat ℕ View) → IsIdle words new → (knows_of new).thread ≡ (knows_of seat).thread
       → (knows_of new).parts ≡ (knows_of seat).parts → (knows_of new).away ≡ (knows_of seat).away
       → HasAll (knows_of seat).known (knows_of new).known → IsSeated words (record m { seat = Some new })
@@ -88,7 +88,7 @@ module _ {R : Type 0} (words : EpochWords) (m : Mutator R) (seated : IsSeated wo
   seated_again new claimed wins most idle counts =
       seated_by new idle counts.thread counts.parts counts.away counts.known
 
-  -- and behind one that lets a register hold what it found
+  -- and after one that lets a register hold what it found
   pub seated_held : {new : Seat ℕ View} {claimed wins most : ℕ} (r address : ℕ) (value : Value) → IsIdle words new
       → Counts (knows_of seat) (knows_of new) claimed wins most → length m.registers.regs ≡ 16 → r < 16
       → Names (knows_of new).known address value

@@ -17,7 +17,7 @@ use Rattle.melt_rule.specs.declared.view.Doing.TheVariants.{Searching}
 use Rattle.melt_rule.specs.declared.view.View.{View}
 use Rattle.melt_epoch.proofs.Following.{counts_most, counts_on, first_on, no_counts, sees_on, step_counts}
 use Rattle.melt_epoch.specs.Bringing.{IsFull, in_use_at}
-use Rattle.melt_epoch.specs.Calls.{Counts, Filled, Goes, Lacked}
+use Rattle.melt_epoch.specs.Calls.{Counts, Filled, IsOnItsWay, Lacked}
 
 -- What is seen from the second view on is seen from the first; so much was counted between them.
 pub record Toward (v w : View) (words wins most : ℕ) : Type 0 where
@@ -56,7 +56,7 @@ toward_on {w} {u} k {doing} le toward step =
     }
 
 pub toward_goes : {v w u : View} {a b m : ℕ} (k : ℕ) {doing : Doing} → m + 1 ≤ k → Toward v w a b m
-    → Reaches w u (Some doing) → Goes v u a b k doing
+    → Reaches w u (Some doing) → IsOnItsWay v u a b k doing
 toward_goes {u} k {doing} le toward step = record {
   sees = toward.on u.seen step.sees;
   counts = (toward_on k le toward step).counts;
@@ -86,7 +86,7 @@ toward_filled v w u a m k le toward fills =
 
 -- a copy became the object of its home
 pub toward_wins : {v w u : View} {a m : ℕ} (k : ℕ) {activation : Activation} → m + 1 ≤ k → Toward v w a 0 m
-    → Wins w u activation → Goes v u a 1 k (in_use_at activation.search activation.address)
+    → Wins w u activation → IsOnItsWay v u a 1 k (in_use_at activation.search activation.address)
 toward_wins {w} {u} k {activation} le toward wins =
     let is = wins.is in
     let so = toward.counts in
@@ -119,7 +119,7 @@ searches_within words seat search is_seat at =
     (subst (λ (d : Option Doing). FitsIn (knows_of seat).began d) at is_seat.within.doing).tried
 
 -- a call goes on from where it has come
-pub goes_toward : (v w : View) (a b m : ℕ) (doing : Doing) → Goes v w a b m doing → Toward v w a b m
+pub goes_toward : (v w : View) (a b m : ℕ) (doing : Doing) → IsOnItsWay v w a b m doing → Toward v w a b m
 goes_toward v w a b m doing goes = record {
   on = λ h sees. sees_on v w h goes.sees goes.counts.thread goes.counts.began sees;
   counts = goes.counts;
@@ -135,7 +135,7 @@ toward_both {v} {u} {a} {b} k le first more = record {
 }
 
 pub toward_then : {v w u : View} {a b m n : ℕ} (k : ℕ) {doing : Doing} → m + n ≤ k → Toward v w a 0 m
-    → Goes w u 0 b n doing → Goes v u a b k doing
+    → IsOnItsWay w u 0 b n doing → IsOnItsWay v u a b k doing
 toward_then {v} {u} {a} {b} k le toward goes = record {
   sees = toward.on u.seen goes.sees;
   counts = subst (λ (c : ℕ). Counts v u c b k) (let e : a + 0 ≡ a = omega arith in e)
@@ -171,7 +171,7 @@ toward_full {u} k sum le toward full =
     }
 
 pub goes_then : {v w u : View} {a b m n : ℕ} (k : ℕ) {doing : Doing} → m + n ≤ k → Toward v w 0 0 m
-    → Goes w u a b n doing → Goes v u a b k doing
+    → IsOnItsWay w u a b n doing → IsOnItsWay v u a b k doing
 goes_then {v} {u} {a} {b} k le toward goes = record {
   sees = toward.on u.seen goes.sees;
   counts = subst (λ (c : ℕ). Counts v u c b k) (let e : 0 + a ≡ a = omega arith in e)

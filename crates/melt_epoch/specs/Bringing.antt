@@ -19,7 +19,7 @@ use Rattle.melt_rule.specs.Tells.{Sees}
 use Rattle.melt_rule.specs.declared.view.Doing.{Doing}
 use Rattle.melt_rule.specs.declared.view.Doing.TheVariants.{Cleared, Copied, Copying, Missed, Retrying}
 use Rattle.melt_rule.specs.declared.view.View.{View}
-use Rattle.melt_epoch.specs.Calls.{Counts, Filled, Goes, Lacked}
+use Rattle.melt_epoch.specs.Calls.{Counts, Filled, IsOnItsWay, Lacked}
 use Rattle.melt_epoch.specs.Fetching.{IsDamage}
 use Rattle.melt_epoch.specs.declared.bring.Sought.{Sought}
 use Rattle.melt_epoch.specs.declared.bring.Sought.TheVariants as sought
@@ -46,9 +46,10 @@ ReadsAll v w words = v.steps + words + 1 ≤ w.steps
 -- What a search comes to: the address to which a word sends its home, or an empty word, or that there is none. Each
 -- word is read once.
 abbrev pub Seeks : View → View → Search → ℕ → Result Sought Refusal → Type 0
-Seeks v w search forwards (Ok (sought.At address)) = Goes v w 0 0 (forwards - search.tried) (in_use_at search address)
+Seeks v w search forwards (Ok (sought.At address)) = IsOnItsWay v w 0 0 (forwards - search.tried) (in_use_at search
+    address)
 Seeks v w search forwards (Ok (sought.Missed missed)) =
-    Goes v w 0 0 (missed.tried + 1 - search.tried) (Missed missed) × (search.tried ≤ missed.tried)
+    IsOnItsWay v w 0 0 (missed.tried + 1 - search.tried) (Missed missed) × (search.tried ≤ missed.tried)
     × (missed.tried < forwards) × (missed ≡ tried_to search missed.tried)
     × (v.steps + (missed.tried + 1 - search.tried) ≤ w.steps)
 Seeks v w search forwards (Err refusal) =
@@ -69,7 +70,7 @@ FindsSent v w false a sent = ProbesShared v w a.search (Copied a) (Retrying (ret
 pub record Settled (v w : View) (a : Activation) (forwards address : ℕ) : Type 0 where
   pub wins : ℕ
   pub one : wins ≤ 1
-  pub goes : Goes v w 0 wins (2 * (forwards - a.search.tried)) (in_use_at a.search address)
+  pub goes : IsOnItsWay v w 0 wins (2 * (forwards - a.search.tried)) (in_use_at a.search address)
 
 abbrev pub SettlesCopy : View → View → Activation → ℕ → Result ℕ Refusal → Type 0
 SettlesCopy v w a forwards (Ok address) = Settled v w a forwards address
@@ -77,7 +78,7 @@ SettlesCopy v w a forwards (Err refusal) =
     IsFull v w 0 (2 * (forwards - a.search.tried) + 1) refusal × ReadsAll v w (forwards - a.search.tried)
 
 -- The words that a copy wants end past the last one, so that the call was refused.
-pub record LacksRoom (v w : View) (search : Search) (most : ℕ) (refusal : Refusal) : Type 0 where
+pub record LacksRoomForCopy (v w : View) (search : Search) (most : ℕ) (refusal : Refusal) : Type 0 where
   pub shape : Shape
   pub small : IsShape shape
   pub object : HomeHas v w.seen search.home shape
@@ -86,21 +87,21 @@ pub record LacksRoom (v w : View) (search : Search) (most : ℕ) (refusal : Refu
   pub lacked : Lacked v w (cost_of shape) most
   pub over : w.doing ≡ None
 
--- All words of a copy behind its header are stored.
+-- All words of a copy after its header are stored.
 pub record IsFilled (v w : View) (a : Activation) : Type 0 where
   pub stored : ℕ
   pub all : stored + 1 ≡ cost_of a.shape
-  pub goes : Goes v w 0 0 stored (Copying a stored)
+  pub goes : IsOnItsWay v w 0 0 stored (Copying a stored)
 
 -- A copy of the Body at a home became its object, or another did.
 pub record CopiedIn (v w : View) (search : Search) (z : Shape) (forwards address : ℕ) : Type 0 where
   pub wins : ℕ
   pub one : wins ≤ 1
   pub object : HomeHas v w.seen search.home z
-  pub goes : Goes v w (cost_of z) wins (cost_of z + 1 + 2 * (forwards - search.tried)) (in_use_at search address)
+  pub goes : IsOnItsWay v w (cost_of z) wins (cost_of z + 1 + 2 * (forwards - search.tried)) (in_use_at search address)
 
 -- The copy found no forwarding word.
-pub record FullBehind (v w : View) (search : Search) (z : Shape) (forwards most : ℕ) (refusal : Refusal) : Type 0 where
+pub record FullAfter (v w : View) (search : Search) (z : Shape) (forwards most : ℕ) (refusal : Refusal) : Type 0 where
   pub object : HomeHas v w.seen search.home z
   pub full : IsFull v w (cost_of z) most refusal
   pub read : ReadsAll v w (forwards - search.tried)
@@ -109,15 +110,15 @@ pub record FullBehind (v w : View) (search : Search) (z : Shape) (forwards most 
 abbrev pub Copies : View → View → Search → Shape → ℕ → Result ℕ Refusal → Type 0
 Copies v w search z forwards (Ok address) = CopiedIn v w search z forwards address
 Copies v w search z forwards (Err refusal) =
-    FullBehind v w search z forwards (cost_of z + 2 + 2 * (forwards - search.tried)) refusal
-    ⊎ LacksRoom v w search 2 refusal
+    FullAfter v w search z forwards (cost_of z + 2 + 2 * (forwards - search.tried)) refusal
+    ⊎ LacksRoomForCopy v w search 2 refusal
 
--- What bringing an object back comes to, behind a home that was found. It claims words for one copy at most, of the
+-- What bringing an object back comes to, after a home that was found. It claims words for one copy at most, of the
 -- object of that home.
 pub record Brought (v w : View) (search : Search) (most address : ℕ) : Type 0 where
   pub words : ℕ
   pub wins : ℕ
-  pub goes : Goes v w words wins most (in_use_at search address)
+  pub goes : IsOnItsWay v w words wins most (in_use_at search address)
   pub claims : ((words ≡ 0) × (wins ≡ 0))
       ⊎ ((z : Shape) × (words ≡ cost_of z) × (wins ≤ 1) × HomeHas v w.seen search.home z)
 
@@ -130,7 +131,7 @@ pub record FoundFull (v w : View) (search : Search) (most : ℕ) (refusal : Refu
 
 -- the call was refused for want of forwarding words or of words
 abbrev pub LacksEither : View → View → Search → ℕ → Refusal → Type 0
-LacksEither v w search most refusal = FoundFull v w search most refusal ⊎ LacksRoom v w search most refusal
+LacksEither v w search most refusal = FoundFull v w search most refusal ⊎ LacksRoomForCopy v w search most refusal
 
 -- The reader failed, in this call, or what was read is no record. That cannot be where the epoch is told.
 abbrev pub IsLost : Bool → Option (List ℕ) → Scions → ℕ → ℕ → ℕ → ℕ → Refusal → Type 0

@@ -19,14 +19,14 @@ use Rattle.melt_core.specs.declared.answer.Refusal.TheVariants.{Pause}
 use Rattle.melt_rule.specs.Making.{FirstFree}
 use Rattle.melt_rule.specs.Rule.{Has, has_cause}
 use Rattle.melt_rule.specs.Seats.{knows_of}
-use Rattle.melt_rule.specs.Tells.{Adds, HasAll, Polls, Sees, Since, view_behind, caused}
+use Rattle.melt_rule.specs.Tells.{Adds, HasAll, Polls, Sees, Since, view_after, caused}
 use Rattle.melt_rule.specs.declared.view.Doing.{Doing}
 use Rattle.melt_rule.specs.declared.view.Doing.TheVariants.{Claimed}
 use Rattle.melt_rule.specs.declared.view.View.{View}
 use Rattle.melt_epoch.specs.Mutators.{with_reference}
 use Rattle.melt_epoch.specs.declared.mutator.Mutator.{Mutator}
 
--- A call was answered. Behind all that was seen before and what others added since, history, registers and reply are
+-- A call was answered. After all that was seen before and what others added since, history, registers and reply are
 -- those that the operation has by its meaning, where the epoch is told. Told or not, it has one entry at most.
 pub record Replies (v w : View) (old new : List Value) (o : Op) (reply : Reply) : Type 0 where
   pub between : List Entry
@@ -95,7 +95,7 @@ pub record Filled (v w : View) (words most : ℕ) : Type 0 where
   pub counted : v.steps ≤ w.steps
 
 -- On its way the call came to this: it has no entry yet.
-pub record Goes (v w : View) (words wins most : ℕ) (doing : Doing) : Type 0 where
+pub record IsOnItsWay (v w : View) (words wins most : ℕ) (doing : Doing) : Type 0 where
   pub sees : Sees v w.seen
   pub counts : Counts v w words wins most
   pub at : w.doing ≡ Some doing
@@ -116,10 +116,10 @@ IsPlain m n o steps result = (n ≡ record m { seat = n.seat })
     × ((s t : Seat ℕ View) → m.seat ≡ Some s → n.seat ≡ Some t
     → Plain (knows_of s) (knows_of t) m.values n.values o steps result)
 
--- So many words of the own region behind its first were filled.
+-- So many words of the own region after its first were filled.
 abbrev pub FillsRegion : View → View → ℕ → ℕ → Type 0
 FillsRegion v w address stored = (z : Shape) → v.doing ≡ Some (Claimed address z 0)
-    → Goes v w 0 0 stored (Claimed address z stored)
+    → IsOnItsWay v w 0 0 stored (Claimed address z stored)
 
 -- An object of this shape was made at the address.
 pub record Made (v w : View) (z : Shape) (address : ℕ) : Type 0 where
@@ -128,7 +128,7 @@ pub record Made (v w : View) (z : Shape) (address : ℕ) : Type 0 where
   pub names : Has w.known address (made (v.seen ++ adds.between))
 
 -- Its words end past the last one, so that the call was refused.
-pub record LacksRoom (v w : View) (z : Shape) (refusal : Refusal) : Type 0 where
+pub record LacksRoomToMake (v w : View) (z : Shape) (refusal : Refusal) : Type 0 where
   pub is : refusal ≡ Pause (Space (cost_of z))
   pub sees : Sees v w.seen
   pub lacked : Lacked v w (cost_of z) 3
@@ -142,12 +142,12 @@ pub record Asks (v w : View) (refusal : Refusal) : Type 0 where
 -- what a call that makes an object comes to, by its address
 abbrev pub Makes : View → View → Shape → Result ℕ Refusal → Type 0
 Makes v w z (Ok address) = Made v w z address
-Makes v w z (Err refusal) = Asks v w refusal ⊎ LacksRoom v w z refusal
+Makes v w z (Err refusal) = Asks v w refusal ⊎ LacksRoomToMake v w z refusal
 
 -- And by the registers.
 abbrev pub MakesFor : View → View → List Value → List Value → Op → Shape → Result Reply Refusal → Type 0
 MakesFor v w old new o z (Ok reply) = Replies v w old new o reply × Counts v w (cost_of z) 0 (cost_of z + 2)
-MakesFor v w old new o z (Err refusal) = (new ≡ old) × (Asks v w refusal ⊎ LacksRoom v w z refusal)
+MakesFor v w old new o z (Err refusal) = (new ≡ old) × (Asks v w refusal ⊎ LacksRoomToMake v w z refusal)
 
 -- and by the mutator, whose thread and reader stay
 abbrev pub IsMade : {R : Type 0} → Mutator R → Mutator R → Op → Shape → Result Reply Refusal → Type 0
@@ -168,7 +168,7 @@ HoldsOnly m n dst (Err refusal) = n ≡ record m { seat = n.seat; reader = n.rea
 -- The thread asked all to stop, by one step. It has that cause, where it had none.
 pub record HasAsked (v w : View) : Type 0 where
   pub sees : Sees v w.seen
-  pub is : w ≡ caused (view_behind v w.seen v.known None)
+  pub is : w ≡ caused (view_after v w.seen v.known None)
   pub thread : w.thread ≡ v.thread
   pub began : w.began ≡ v.began
   pub known : w.known ≡ v.known

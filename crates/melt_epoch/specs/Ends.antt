@@ -103,7 +103,7 @@ pub record MayEnd {R : Type 0} (words : EpochWords) (ms : List (Mutator R)) : Ty
   pub all : length ms ≡ length words.start.began.threads
   pub seated : All (IsSeated words) ms
 
--- The history behind the epoch: it is legal and begins with that before the epoch. Each thread had seen a beginning of
+-- The history after the epoch: it is legal and begins with that before the epoch. Each thread had seen a beginning of
 -- it with all its own entries, and other threads have no entry since.
 pub record HistoryEnds {R : Type 0} (b : Began) (ms : List (Mutator R)) (h : List Entry) : Type 0 where
   pub legal : b.told ≡ true → Legal h b.globals
@@ -134,9 +134,9 @@ pub record MapsEnd {R : Type 0} (b : Began) (ms : List (Mutator R)) (maps : Maps
   pub only : (address n : ℕ) → maps.address address ≡ Some n
       → (named b.maps.addresses address ≡ Some n) ⊎ SomeKnows ms address n
 
--- the first free place behind what all mutators claimed
-abbrev pub free_behind : {R : Type 0} → Began → List (Mutator R) → ℕ
-free_behind {R} b ms = b.free + sum_by (λ (m : Mutator R). (view_of m).claimed) ms
+-- the first free place after what all mutators claimed
+abbrev pub free_after : {R : Type 0} → Began → List (Mutator R) → ℕ
+free_after {R} b ms = b.free + sum_by (λ (m : Mutator R). (view_of m).claimed) ms
 
 -- The heap has the sizes and the scions with which the epoch began, and no names. In use are the words before the first
 -- free place, or all, where a claim ended past the last one. What mutators have counted and found is so; and where one
@@ -147,9 +147,9 @@ pub record HeapEnds {R : Type 0} (b : Began) (ms : List (Mutator R)) (heap : Hea
   pub forwards : length heap.forward ≡ b.forwards
   pub scions : heap.scions ≡ b.scions
   pub nameless : heap.names ≡ None
-  pub used : heap.space.used ≡ min (free_behind b ms - 1) b.size
+  pub used : heap.space.used ≡ min (free_after b ms - 1) b.size
   pub won : filled_count (slice_index heap.forward) b.forwards ≡ sum_by (λ (m : Mutator R). (view_of m).won) ms
-  pub spaced : All (λ (m : Mutator R). (view_of m).spaced ≡ true → b.size + 1 < free_behind b ms) ms
+  pub spaced : All (λ (m : Mutator R). (view_of m).spaced ≡ true → b.size + 1 < free_after b ms) ms
   pub forwarded : All (λ (m : Mutator R). (view_of m).forwarded ≡ true → (p : ℕ) → p < b.forwards
       → slice_index heap.forward p ≢ 0) ms
   pub stops : All (λ (m : Mutator R). (view_of m).stopped ≡ true → SomeCause ms) ms

@@ -46,11 +46,11 @@ ReadsHead image end home before after (Err refusal.DiskFault) = Rose before afte
 ReadsHead image end home before after (Err (refusal.Damaged damaged)) = HeadBroken image end home damaged
 ReadsHead image end home before after (Err (refusal.Pause pause)) = ⊥
 
--- how many words a Body has behind its head
+-- how many words a Body has after its head
 abbrev pub rest_size : Shape → ℕ
 rest_size z = z.refs + z.nums
 
--- The words of a Body behind its head were read, in front of others.
+-- The words of a Body after its head were read, in front of others.
 pub record RestRead (image : Option (List ℕ)) (end home : ℕ) (z : Shape) (rest : List ℕ) : Type 0 where
   pub size : length rest ≡ 124
   pub read : WasRead image (home + 2) (rest_size z) (take (rest_size z) rest)
@@ -73,7 +73,7 @@ pub record IsDead (scions : Scions) (home scion : ℕ) (damaged : Damaged) : Typ
   pub dead : (address : ℕ) → scion_in scions scion ≢ Some (record { home = home; address = address })
   pub is : damaged ≡ record { home = home; at = 1; word = scion }
 
--- A Body was read: its shape, and the words behind its head in front of others.
+-- A Body was read: its shape, and the words after its head in front of others.
 pub record BodyFetched (image : Option (List ℕ)) (end home : ℕ) (z : Shape) (rest : List ℕ) : Type 0 where
   pub small : IsShape z
   pub size : length rest ≡ 124
@@ -86,7 +86,7 @@ pub record HeadDamage (image : Option (List ℕ)) (scions : Scions) (end home : 
   pub breaks : IsHeadDamage home end (slice_index words 0) (slice_index words 1) damaged
       ⊎ NamesNoScion scions home end (slice_index words 0) (slice_index words 1) damaged
 
--- The head of a Body was read, and a slot behind it that is none.
+-- The head of a Body was read, and a slot after it that is none.
 pub record RestDamage (image : Option (List ℕ)) (end home : ℕ) (damaged : Damaged) : Type 0 where
   pub shape : Shape
   pub head : HeadRead image end home (record { shape = shape; kind = Body })

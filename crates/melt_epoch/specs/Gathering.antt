@@ -5,14 +5,14 @@ use Rattle.melt_scion.specs.declared.heap.Heap.{Heap}
 use Rattle.melt_rule.specs.Giving.{joined_view, spent_view}
 use Rattle.melt_rule.specs.Rule.{first_view}
 use Rattle.melt_rule.specs.Seats.{EpochWords, IsSeat, knows_of}
-use Rattle.melt_rule.specs.Shown.{free_place, front, globals_from}
+use Rattle.melt_rule.specs.Shown.{free_place, leading_words, globals_from}
 use Rattle.melt_rule.specs.declared.began.Start.{Start}
 use Rattle.melt_rule.specs.declared.view.View.{View}
 use Rattle.melt_epoch.specs.declared.mutator.Mutator.{Mutator}
 
 -- the stop word and the first free place, globals, forwarding words and the words of the space
 abbrev pub words_of_heap : Heap → List ℕ
-words_of_heap heap = front 0 (heap.space.used + 1) ++ (heap.globals ++ (heap.forward ++ heap.space.list))
+words_of_heap heap = leading_words 0 (heap.space.used + 1) ++ (heap.globals ++ (heap.forward ++ heap.space.list))
 
 -- The words stand in the heap again, each where it came from. Those before the first free place are in use, of the
 -- words that there are.
@@ -37,7 +37,7 @@ pub record IsGiven {R : Type 0} (words : EpochWords) (m : Mutator R) : Type 0 wh
   pub is : IsSeat words seat
   pub knows : knows_of seat ≡ fresh_view words.start m.thread
 
--- the view of a seat that took in seats with these views, one behind the other
+-- the view of a seat that took in seats with these views, one after the other
 abbrev pub gathered : View → List View → View
 gathered v [] = v
 gathered v (w ∷ ws) = gathered (joined_view v w) ws

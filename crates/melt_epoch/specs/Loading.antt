@@ -107,13 +107,13 @@ pub record LoadLost (told : Bool) (image : Option (List ℕ)) (scions : Scions) 
   pub stays : Stays v w most
   pub lost : IsLost told image scions end home before after refusal
 
--- why it was refused, behind a look at the slot
+-- why it was refused, after a look at the slot
 abbrev pub LoadRefused : Bool → Option (List ℕ) → Scions → ℕ → ℕ → ℕ → View → View → Slot → ℕ → Refusal → Type 0
 LoadRefused told image scions end before after v w s most refusal =
     LoadFull v w s most refusal ⊎ (LoadLacks v w s most refusal
     ⊎ LoadLost told image scions end before after v w most refusal)
 
--- what a load comes to behind a look
+-- what a load comes to after a look
 abbrev pub Resolves : Bool → Option (List ℕ) → Scions → ℕ → ℕ → ℕ → View → View → Slot → ℕ → Result ℕ Refusal → Type 0
 Resolves told image scions end before after v w s most (Ok address) = Loads v w s most address
 Resolves told image scions end before after v w s most (Err refusal) =

@@ -78,7 +78,7 @@ fn ask_next(
 
 /// Exchanges the empty forwarding word with that of the copy at hand. Where another home took it first, the search goes
 /// on with the copy; where another copy of the object did, that one is the object.
-pub(crate) fn settle(
+pub(crate) fn commit_copy(
     words: &Words,
     seat: &mut Seated,
     forwards: u32,

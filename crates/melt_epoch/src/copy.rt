@@ -8,13 +8,13 @@ ghost use Rattle.melt_rule.specs.Shown.{base_at};
 ghost use Rattle.melt_rule.specs.declared.view.Doing.TheVariants.{Copying, Missed};
 ghost use Rattle.melt_epoch.specs.Bringing.{Copies, IsFilled};
 
-use crate::bring::settle;
+use crate::bring::commit_copy;
 use melt_core::call::{Activation, Search};
 use melt_core::{Pause, Refusal};
 use melt_rule::{Seated, Words};
 use melt_word::{HomeWord, Shape, cost, encode_home};
 
-/// A word of a copy behind its header: the home word, which has no scion yet, and then the words that were read.
+/// A word of a copy after its header: the home word, which has no scion yet, and then the words that were read.
 fn word_of_copy(home: u32, shape: Shape, rest: &[u64], k: u32) -> u64
     requires home { IsDiskHome home }
     requires rest { length rest.now ≡ shape.refs + shape.nums }
@@ -28,7 +28,7 @@ fn word_of_copy(home: u32, shape: Shape, rest: &[u64], k: u32) -> u64
     rest[k as usize - 2]
 }
 
-/// Stores all words of a copy behind its header.
+/// Stores all words of a copy after its header.
 fn fill_copy(words: &Words, seat: &mut Seated, activation: Activation, rest: &[u64])
     requires seat { IsSeat words.now seat.old }
     requires copying { (knows_of seat.old).doing ≡ Some (Copying activation 0) }
@@ -44,7 +44,7 @@ fn fill_copy(words: &Words, seat: &mut Seated, activation: Activation, rest: &[u
     }
 }
 
-/// Makes a copy of a Body, of this shape and with these words behind its head, which was read at the home that is
+/// Makes a copy of a Body, of this shape and with these words after its head, which was read at the home that is
 /// searched for; and answers the address of the object of that home. Where there is no room for the copy, it sets the
 /// stop word.
 pub(crate) fn copy_in(
@@ -76,5 +76,5 @@ pub(crate) fn copy_in(
     };
     fill_copy(words, seat, activation, rest);
     words.head_copy(seat, activation);
-    settle(words, seat, forwards, activation)
+    commit_copy(words, seat, forwards, activation)
 }

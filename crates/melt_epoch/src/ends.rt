@@ -13,18 +13,18 @@ use crate::epoch::Epoch;
 use crate::mutator::Mutator;
 use melt_io::RecordReader;
 use melt_model::{Ghost, NoMemory};
-use melt_rule::{EndedWords, FREE_AT, GLOBALS_AT, Pass, Seated, Start, Words, front};
+use melt_rule::{EndedWords, FREE_AT, GLOBALS_AT, Pass, Seated, Start, Words, leading_words};
 use melt_scion::{GhostMaps, Heap};
 use melt_space::Space;
 use std::alloc::Global;
 
-/// The words of a heap as those of an epoch: those of the front, the globals, the forwarding words, and the words of
+/// The words of a heap as those of an epoch: the leading words, the globals, the forwarding words, and the words of
 /// the space.
 fn lay_out(alloc: Global, heap: &Heap) -> Result<Vec<u64>, NoMemory>
     ensures { IfOk result (λ words. words.items ≡ words_of_heap heap.now) }
 {
     let mut words = Vec::new(alloc);
-    words.extend_from_slice(&front(heap.space.used() as u64 + 1))?;
+    words.extend_from_slice(&leading_words(heap.space.used() as u64 + 1))?;
     words.extend_from_slice(&heap.globals.items)?;
     words.extend_from_slice(&heap.forward.items)?;
     words.extend_from_slice(heap.space.words_at(1, heap.space.words()))?;

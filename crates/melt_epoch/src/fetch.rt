@@ -1,4 +1,4 @@
-//! How the record of a home is read, behind a search that no forwarding word helped.
+//! How the record of a home is read, after a search that no forwarding word helped.
 //!
 //! Nothing that is read is trusted: what a record cannot say is found, and ends the call. Where the disk returns what
 //! was written, it is never found.
@@ -13,7 +13,7 @@ use melt_record::{Damaged, Head, Kind, decode_head, decode_rest};
 use melt_scion::ScionTable;
 use melt_word::Shape;
 
-/// How many words a record has at most behind its head: 62 slots and 62 numbers.
+/// How many words a record has at most after its head: 62 slots and 62 numbers.
 pub(crate) const MAX_REST: usize = 124;
 
 /// What the record of a home holds.
@@ -44,7 +44,7 @@ fn read_head<R: RecordReader>(reader: &mut R, end: u32, home: u32) -> Result<Hea
     }
 }
 
-/// Reads the words of a Body of this shape behind its head.
+/// Reads the words of a Body of this shape after its head.
 fn read_rest<R: RecordReader>(
     reader: &mut R,
     end: u32,
@@ -89,7 +89,7 @@ fn find_stub(scions: &ScionTable, home: u32, scion: u32) -> Result<u32, Damaged>
     }
 }
 
-/// Reads the record of a home, which a search missed: its head, and then what a Body has behind it.
+/// Reads the record of a home, which a search missed: its head, and then what a Body has after it.
 pub(crate) fn read_record<R: RecordReader>(
     reader: &mut R,
     scions: &ScionTable,

@@ -32,7 +32,7 @@ pub(crate) fn make_object(words: &Words, seat: &mut Seated, shape: Shape) -> Res
     Ok(address)
 }
 
-/// Stores 0 into each word of the own region behind its first.
+/// Stores 0 into each word of the own region after its first.
 fn fill(words: &Words, seat: &mut Seated, address: u32, cost: u32)
     requires seat { IsSeat words.now seat.old }
     requires region { (z : ShapeIs) × ((knows_of seat.old).doing ≡ Some (Claimed address z 0)) × (cost_of z ≡ cost) }

@@ -76,7 +76,8 @@ impl<R> Mutator<R> {
     /// Whether two registers hold one object, or both hold none.
     pub fn same(&self, a: u8, b: u8) -> Reply
         requires registers { (a < 16) × (b < 16) }
-        ensures told { (words : EpochWords) (h : List Entry) → IsSeated words self.now → words.start.began.told ≡ true
+        ensures answers { (words : EpochWords) (h : List Entry) → IsSeated words self.now
+            → words.start.began.told ≡ true
             → Answers self.now.thread h self.now.values (Same a b) result h self.now.values }
     {
         if self.registers.regs[a as usize] == self.registers.regs[b as usize] {
@@ -92,7 +93,7 @@ impl<R> Mutator<R> {
         ensures seated { (words : EpochWords) → IsSeated words self.old → IsSeated words self.new }
         ensures seat { self.new.seat ≡ self.old.seat }
         ensures reader { self.new.reader ≡ self.old.reader }
-        ensures told { (h : List Entry)
+        ensures answers { (h : List Entry)
             → Answers self.old.thread h self.old.values (Copy dst src) result h self.new.values }
     {
         let values = Ghost::pick(&(&self.values, dst, src));
@@ -107,7 +108,7 @@ impl<R> Mutator<R> {
         ensures seated { (words : EpochWords) → IsSeated words self.old → IsSeated words self.new }
         ensures seat { self.new.seat ≡ self.old.seat }
         ensures reader { self.new.reader ≡ self.old.reader }
-        ensures told { (h : List Entry) → Answers self.old.thread h self.old.values (Drop r) result h self.new.values }
+        ensures answers { (h : List Entry) → Answers self.old.thread h self.old.values (Drop r) result h self.new.values }
     {
         let values = Ghost::pick(&(&self.values, r));
         self.set(r, 0);

@@ -1,4 +1,4 @@
--- What is well formed of a heap does not depend on the disk, but for the word behind all homes.
+-- What is well formed of a heap does not depend on the disk, but for the word after all homes.
 use Rattle.std.proofs.Common.{◌≡◌, ℕ, ◌+◌, ◌<◌, ◌≤◌, List, subst, inl, inr}
 use Rattle.std.specs.Prelude.{◌↔◌, ◌^◌}
 use Rattle.melt_word.specs.Words.{cost_of}

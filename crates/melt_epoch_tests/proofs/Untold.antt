@@ -1,4 +1,5 @@
--- An epoch on any well-formed heap, over a disk of which nothing is told, with the empty history; and the heap behind.
+-- An epoch on any well-formed heap, over a disk of which nothing is told, with the empty history; and the heap
+-- afterwards.
 use Rattle.std.proofs.Common.{◌≡◌, ℕ, ◌+◌, ◌<◌, false, List, [], ◌∷◌, length}
 use Rattle.std.proofs.Common.{refl, sym, ◌∙◌, ap, subst, arith, inl}
 use Rattle.std.proofs.Math.Path.{fun_ext}
@@ -27,7 +28,7 @@ use Rattle.melt_epoch.specs.Tests.{HasBegun, MayCall, eight}
 use Rattle.melt_epoch.specs.declared.epoch.Epoch.{Epoch}
 use Rattle.melt_epoch.specs.declared.mutator.Mutator.{Mutator}
 use Rattle.melt_epoch.proofs.Empty.{begun_all, eight_once, none_held}
-use Rattle.melt_epoch_tests.specs.Stages.{AreNew, GoesOnStage, IsNewMutator, IsReadyHeap}
+use Rattle.melt_epoch_tests.specs.Scenes.{AreNew, GoesOnScene, IsNewMutator, IsReadyHeap}
 use Rattle.melt_epoch_tests.proofs.OtherDisk.{words_on_other}
 
 -- what such an epoch begins with
@@ -146,7 +147,7 @@ module _ (heap : Heap) (end : ℕ) (formed : IsFormedOn heap [] end) (ready : Is
       → IfOk result (λ (epoch : Epoch). epoch.words.start ≡ start)
       → IfOk result (λ (epoch : Epoch). All (HasJoined epoch.words) ms)
       → IfOk result (λ (epoch : Epoch). All (HasReader image epoch.words) ms)
-      → IfOk result (λ (epoch : Epoch). GoesOnStage image epoch ms (length heap.globals) end)
+      → IfOk result (λ (epoch : Epoch). GoesOnScene image epoch ms (length heap.globals) end)
   untold_goes {R} image (Ok epoch) ms olds new kept is joined readers =
       let threads : map (λ (m : Mutator R). m.thread) olds ≡ eight = threads_are eight olds new in
       let size : length olds ≡ 8 = sym (length-map olds (λ (m : Mutator R). m.thread)) ∙ ap length threads in
@@ -171,7 +172,7 @@ begun_set {R} image words ms k m (seated, has) (may, all) =
       All-set (HasReader image words) ms k m has all,
     )
 
--- behind an epoch that began so
+-- after an epoch that began so
 pub ended_formed : {R : Type 0} (b : Began) (ms : List (Mutator R)) (heap : Heap) (h : List Entry) (end : ℕ)
     → HasEnded b ms heap h → b.end ≡ end → AreScionsFor b.size b.scions → IsFormedOn heap [] end
 ended_formed b ms heap h end ended ends scions = record {

@@ -5,13 +5,13 @@
 //! the heaps that are needed here: with tags, with homes on a disk, and with scions.
 #![tactic(auto)]
 
+pub mod log;
 pub mod play;
-pub mod stage;
-pub mod told;
+pub mod scene;
 pub mod trouble;
 pub mod world;
 
-pub use stage::Stage;
+pub use scene::Scene;
 pub use trouble::Trouble;
 pub use world::World;
 

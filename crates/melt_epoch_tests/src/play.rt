@@ -2,8 +2,8 @@
 ghost use Rattle.std.specs.Prelude.{◌≡◌};
 ghost use Rattle.melt_epoch.specs.Tests.{HasBegun, MayCall};
 
-use crate::stage::call;
-use crate::told::{Log, MOST, NOTHING, Told};
+use crate::log::{Log, LoggedCall, MOST, NOTHING};
+use crate::scene::call;
 use melt_epoch::{Epoch, Mutator};
 use melt_io::RecordReader;
 use melt_model::{Op, Reply};
@@ -101,14 +101,14 @@ pub(crate) fn number_at<R: RecordReader>(
     }
 }
 
-/// Makes a call, and tells what it came to. Where a load found an object, its first number is looked up behind it.
+/// Makes a call, and tells what it came to. Where a load found an object, its first number is looked up after it.
 fn tell<R: RecordReader>(
     epoch: &Epoch,
     globals: u8,
     m: &mut Mutator<R>,
     signals: &Signals,
     op: Op,
-) -> Option<Told>
+) -> Option<LoggedCall>
     requires globals { globals ≡ epoch.now.words.start.began.globals }
     requires may { MayCall R.image epoch.now.words m.old }
     ensures may { MayCall R.image epoch.now.words m.new }
@@ -122,7 +122,7 @@ fn tell<R: RecordReader>(
         }
         _ => None,
     };
-    Some(Told {
+    Some(LoggedCall {
         op,
         result,
         found,

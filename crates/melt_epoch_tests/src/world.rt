@@ -3,9 +3,9 @@ ghost use Rattle.std.specs.Prelude.{◌≡◌, ◌<◌, ◌^◌, [], IfOk, IfSom
 ghost use Rattle.melt_epoch.specs.Tests.{eight};
 ghost use Rattle.melt_io.specs.Lies.{told};
 ghost use Rattle.melt_move.specs.Collecting.{IsFormedOn};
-ghost use Rattle.melt_epoch_tests.specs.Stages.{AreNew, GoesOnStage, IsNewMutator, IsReadyHeap};
+ghost use Rattle.melt_epoch_tests.specs.Scenes.{AreNew, GoesOnScene, IsNewMutator, IsReadyHeap};
 
-use crate::stage::Stage;
+use crate::scene::Scene;
 use crate::trouble::Trouble;
 use melt_disk::StaleSpace;
 use melt_epoch::{Epoch, Mutator};
@@ -163,7 +163,7 @@ fn begin_untold<R: RecordReader>(
     requires formed { IsFormedOn heap [] end }
     requires ready { IsReadyHeap heap }
     requires mutators { AreNew eight mutators.old }
-    ensures { IfOk result (λ epoch. GoesOnStage R.image epoch mutators.new (length heap.globals) end) }
+    ensures { IfOk result (λ epoch. GoesOnScene R.image epoch mutators.new (length heap.globals) end) }
 {
     Epoch::begin(alloc, heap, Pass::new(), end, mutators)
 }
@@ -173,17 +173,17 @@ fn begin_ready<'d, D: StaleDisk, R: RecordReader + Drop>(
     alloc: Global,
     world: World<'d, D>,
     readers: [R; 8],
-) -> Result<Stage<'d, D, R>, Trouble>
+) -> Result<Scene<'d, D, R>, Trouble>
     requires formed { IsFormedOn world.heap [] world.disk.end }
     requires ready { IsReadyHeap world.heap }
     ensures { IfOk result
-        (λ stage. GoesOnStage R.image stage.epoch stage.mutators stage.globals stage.disk.end) }
+        (λ scene. GoesOnScene R.image scene.epoch scene.mutators scene.globals scene.disk.end) }
 {
     let World { heap, disk } = world;
     let globals = heap.globals.items.len() as u8;
     let mut mutators = new_mutators(readers);
     let epoch = begin_untold(alloc, heap, disk.end(), &mut mutators)?;
-    Ok(Stage {
+    Ok(Scene {
         epoch,
         mutators,
         globals,
@@ -254,10 +254,10 @@ impl<'d, D: StaleDisk> World<'d, D> {
         self,
         alloc: Global,
         readers: [R; 8],
-    ) -> Result<Stage<'d, D, R>, Trouble>
+    ) -> Result<Scene<'d, D, R>, Trouble>
         requires { IsFormedOn self.heap [] self.disk.end }
         ensures { IfOk result
-            (λ stage. GoesOnStage R.image stage.epoch stage.mutators stage.globals stage.disk.end) }
+            (λ scene. GoesOnScene R.image scene.epoch scene.mutators scene.globals scene.disk.end) }
     {
         if is_ready(&self.heap) {
             begin_ready(alloc, self, readers)
@@ -269,11 +269,11 @@ impl<'d, D: StaleDisk> World<'d, D> {
 
 impl<'d> World<'d, MemDisk> {
     /// Begins an epoch of eight threads with readers that the disk lends.
-    pub fn open(self, alloc: Global) -> Result<Stage<'d, MemDisk, MemReader>, Trouble>
+    pub fn open(self, alloc: Global) -> Result<Scene<'d, MemDisk, MemReader>, Trouble>
         requires { IsFormedOn self.heap [] self.disk.end }
         ensures { IfOk result
-            (λ stage. GoesOnStage (λ reader. told reader.lies.items reader.image.items)
-            stage.epoch stage.mutators stage.globals stage.disk.end) }
+            (λ scene. GoesOnScene (λ reader. told reader.lies.items reader.image.items)
+            scene.epoch scene.mutators scene.globals scene.disk.end) }
     {
         let World { heap, mut disk } = self;
         let readers = lend_all(alloc, &mut disk)?;
@@ -286,9 +286,9 @@ impl<'d> World<'d, MemDisk> {
         requires { IsFormedOn self.heap [] self.disk.end }
         ensures { IfOk result (λ world. IsFormedOn world.heap [] world.disk.end) }
     {
-        let mut stage = self.open(alloc)?;
-        let is_answered = stage.call_all(0, ops);
-        let world = stage.finish();
+        let mut scene = self.open(alloc)?;
+        let is_answered = scene.call_all(0, ops);
+        let world = scene.finish();
         if is_answered {
             Ok(world)
         } else {

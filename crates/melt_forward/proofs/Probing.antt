@@ -9,7 +9,7 @@ start_within : (home count : ℕ) → 0 < count → start home count < count
 unfolding start
 start_within home count some = mod-lt (home * 2654435769 % 2 ^ 32) some
 
--- a place counted on from place 0, where place 0 comes behind the last
+-- a place counted on from place 0, where place 0 comes after the last
 abbrev wrapped : ℕ → ℕ → ℕ
 wrapped count place = if nat_lt place count then place else place - count
 
@@ -29,7 +29,7 @@ probe_by_test home count k below =
     let first = start_within home count (omega arith) in
     let is = probe_is home count k below in (
       λ before. grind (arith, nat_tests),
-      λ behind. grind (arith, nat_tests),
+      λ after. grind (arith, nat_tests),
     )
 
 -- the places that are tried are those of the words

@@ -44,7 +44,7 @@ unsent words home n k searched no_gaps empty below =
       | inl here ↦ empty_sends_not (probed words home k) home
           (subst (λ (i : ℕ). probed words home i ≡ 0) (sym here) empty)
       | inr (inl before) ↦ another_sends_not (probed words home k) home (searched k before)
-      | inr (inr behind) ↦ λ address sends. no_gaps.filled home address k n below sends behind empty
+      | inr (inr after) ↦ λ address sends. no_gaps.filled home address k n below sends after empty
     ]
 
 pub ends_empty : (words : List ℕ) (home n place : ℕ) → Searched words home n → HaveNoGaps words → n < length words

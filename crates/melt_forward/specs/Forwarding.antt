@@ -31,7 +31,7 @@ SendsAnother word home = (other : ℕ) × (address : ℕ) × (other ≢ home) ×
 unfoldable pub start : ℕ → ℕ → ℕ
 start home count = home * 2654435769 % 2 ^ 32 % count
 
--- the place that is tried after a place: behind the last the first
+-- the place that is tried after a place: after the last the first
 abbrev pub next : ℕ → ℕ → ℕ
 next count place = if place + 1 == count then 0 else place + 1
 

@@ -13,7 +13,7 @@ use Rattle.melt_trace.specs.Grammar.{InRange}
 use Rattle.melt_trace.specs.Language.{AreItems, IsScript, operation_count}
 use Rattle.melt_gen.specs.declared.workload.Workload.{Workload}
 use Rattle.melt_gen.specs.declared.workload.Workload.TheVariants as workload
-use Rattle.melt_gen.specs.Workloads.{drawn, state_behind, rounds, round_of, operations_of, program_of, programs_of}
+use Rattle.melt_gen.specs.Workloads.{drawn, state_after, rounds, round_of, operations_of, program_of, programs_of}
 use Rattle.melt_gen.specs.Workloads.{generated, globals_of}
 use Rattle.melt_gen.specs.Workloads.{list_round, list_end, front_round, queue_round, look_round, table_start}
 use Rattle.melt_gen.specs.Workloads.{table_round, way, leaf, tree_round, highest}
@@ -23,7 +23,7 @@ use Rattle.melt_gen.specs.Workloads.{table_round, way, leaf, tree_round, highest
 draw_fits : (seed n : ℕ) → drawn seed n < 2 ^ 64
 unfolding drawn
 draw_fits seed n =
-    let z = fold_mul (fold_mul (next_state (state_behind seed n)) 30 0xbf58476d1ce4e5b9) 27 0x94d049bb133111eb in
+    let z = fold_mul (fold_mul (next_state (state_after seed n)) 30 0xbf58476d1ce4e5b9) 27 0x94d049bb133111eb in
     let small : z < 2 ^ 64 = omega arith in
     xor_lt 64 z (z / 2 ^ 31) small (omega (arith, shr_le z 31))
 

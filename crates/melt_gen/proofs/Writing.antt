@@ -5,37 +5,37 @@ use Rattle.rand_xoshiro.specs.SplitMix64.{mix_u64}
 use Rattle.melt_model.specs.declared.operations.Op.{Op}
 use Rattle.melt_trace.specs.declared.script.Item.{Item}
 use Rattle.melt_trace.specs.declared.script.Item.TheVariants as item
-use Rattle.melt_gen.specs.Workloads.{drawn, rounds, state_behind}
+use Rattle.melt_gen.specs.Workloads.{drawn, rounds, state_after}
 
 -- a lemma of functions at suc k, where the code counts to k + 1
 pub next_round : (round : ℕ → List Op) (k : ℕ) → rounds round (k + 1) ≡ rounds round k ++ round k
 next_round round k = let on : k + 1 ≡ suc k = omega arith in ap (rounds round) on
 
--- the lines of operations stand behind those of others
-pub behind : (start new old : List Item) (before ops : List Op) → new ≡ old ++ map item.Op ops
+-- the lines of operations stand after those of others
+pub written_after : (start new old : List Item) (before ops : List Op) → new ≡ old ++ map item.Op ops
     → old ≡ start ++ map item.Op before → new ≡ start ++ map item.Op (before ++ ops)
-behind start new old before ops e f =
+written_after start new old before ops e f =
     e ∙ ap (λ (lines : List Item). lines ++ map item.Op ops) f
     ∙ append_assoc start (map item.Op before) (map item.Op ops)
     ∙ ap (λ (lines : List Item). start ++ lines) (sym (map-append item.Op before ops))
 
-pub draw_is : (seed n state word next : ℕ) → (word, next) ≡ mix_u64 state → state ≡ state_behind seed n
+pub draw_is : (seed n state word next : ℕ) → (word, next) ≡ mix_u64 state → state ≡ state_after seed n
     → word ≡ drawn seed n
 unfolding drawn
 draw_is seed n state word next e f = ap (λ p. p.0) e ∙ ap (λ (s : ℕ). (mix_u64 s).0) f
 
-pub next_state_is : (seed n state word next : ℕ) → (word, next) ≡ mix_u64 state → state ≡ state_behind seed n
-    → next ≡ state_behind seed (n + 1)
+pub next_state_is : (seed n state word next : ℕ) → (word, next) ≡ mix_u64 state → state ≡ state_after seed n
+    → next ≡ state_after seed (n + 1)
 next_state_is seed n state word next e f =
     let on : suc n ≡ n + 1 = omega arith in
-    ap (λ p. p.1) e ∙ ap (λ (s : ℕ). (mix_u64 s).1) f ∙ ap (state_behind seed) on
+    ap (λ p. p.1) e ∙ ap (λ (s : ℕ). (mix_u64 s).1) f ∙ ap (state_after seed) on
 
 -- the lines of one more round
 pub round_written : (start : List Item) (first : List Op) (round : ℕ → List Op) (k : ℕ) {new old : List Item}
     {ops : List Op} → new ≡ old ++ map item.Op ops → ops ≡ round k
     → old ≡ start ++ map item.Op (first ++ rounds round k) → new ≡ start ++ map item.Op (first ++ rounds round (k + 1))
 round_written start first round k {new} {old} {ops} e f g =
-    behind start new old (first ++ rounds round k) ops e g
+    written_after start new old (first ++ rounds round k) ops e g
     ∙ ap (λ (more : List Op). start ++ map item.Op ((first ++ rounds round k) ++ more)) f
     ∙ ap (λ (all : List Op). start ++ map item.Op all)
     (append_assoc first (rounds round k) (round k)

@@ -13,14 +13,14 @@ use Rattle.melt_gen.specs.declared.workload.Workload.TheVariants as workload
 
 -- ---- draws
 
--- the state of the generator behind n draws, where the state was the seed before the first
-abbrev pub state_behind : (seed : ℕ) → (n : ℕ) → ℕ
-state_behind seed zero = seed
-state_behind seed (suc n) = (mix_u64 (state_behind seed n)).1
+-- the state of the generator after n draws, where the state was the seed before the first
+abbrev pub state_after : (seed : ℕ) → (n : ℕ) → ℕ
+state_after seed zero = seed
+state_after seed (suc n) = (mix_u64 (state_after seed n)).1
 
 -- the draws from a seed on, numbered from 0
 unfoldable pub drawn : (seed : ℕ) → ℕ → ℕ
-drawn seed n = (mix_u64 (state_behind seed n)).0
+drawn seed n = (mix_u64 (state_after seed n)).0
 
 -- ---- rounds
 
@@ -39,7 +39,7 @@ abbrev pub list_end : (thread : ℕ) → List Op
 list_end t =
     op.GLoad 1 t ∷ op.Get 1 0 ∷ [] ++ rounds (λ i. op.Load 1 1 0 ∷ op.Get 1 0 ∷ []) 7 ++ op.Drop 0 ∷ op.Drop 1 ∷ []
 
--- ---- queue: each object goes behind the last, and where the word is odd the first one leaves
+-- ---- queue: each object goes after the last, and where the word is odd the first one leaves
 
 abbrev pub front_round : (first : ℕ) → (word : ℕ) → ℕ → List Op
 front_round a w zero = op.GStore a 0 ∷ []

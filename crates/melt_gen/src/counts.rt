@@ -2,7 +2,7 @@
 ghost use Rattle.std.specs.Prelude.{◌≡◌, ℕ, ◌+◌, ◌-◌, ◌*◌, ◌^◌, ◌%◌, ◌<◌, ◌≤◌, length};
 ghost use Rattle.melt_trace.specs.Language.{operation_count};
 ghost use Rattle.melt_gen.specs.declared.workload.Workload.TheVariants as workload;
-ghost use Rattle.melt_gen.specs.Workloads.{drawn, state_behind, front_round, tree_round, operations_of, programs_of};
+ghost use Rattle.melt_gen.specs.Workloads.{drawn, state_after, front_round, tree_round, operations_of, programs_of};
 
 use crate::workload::Workload;
 use rand_core::SeedableRng;
@@ -18,7 +18,7 @@ pub fn draws_of(seed: u64, thread: u32) -> SplitMix64
 
 /// How many operations the queue's front has in round `k`.
 fn front_count(draws: &mut SplitMix64, k: u32) -> u32
-    ensures value { (seed : ℕ) → draws.old ≡ state_behind seed (k - 1) → (draws.new ≡ state_behind seed k)
+    ensures value { (seed : ℕ) → draws.old ≡ state_after seed (k - 1) → (draws.new ≡ state_after seed k)
         × ((first : ℕ) → result ≡ length (front_round first (drawn seed (k - 1)) k)) }
     ensures within { result ≤ 3 }
 {

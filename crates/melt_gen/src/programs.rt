@@ -2,7 +2,7 @@
 ghost use Rattle.std.specs.Prelude.{◌≡◌, ℕ, ◌+◌, ◌-◌, ◌/◌, ◌<◌, ◌≤◌, ◌++◌, map, IfOk, OnOk};
 ghost use Rattle.melt_trace.specs.declared.script.Item.TheVariants as item;
 ghost use Rattle.melt_gen.specs.declared.workload.Workload.TheVariants as workload;
-ghost use Rattle.melt_gen.specs.Workloads.{drawn, state_behind, list_end, front_round, look_round, highest, way};
+ghost use Rattle.melt_gen.specs.Workloads.{drawn, state_after, list_end, front_round, look_round, highest, way};
 ghost use Rattle.melt_gen.specs.Workloads.{tree_round, operations_of};
 
 use crate::lines::{drop, get, gload, gstore, load, new, put, store};
@@ -25,7 +25,7 @@ fn push_all(items: &mut Vec<Item>, operations: &[Op]) -> Result<(), NoMemory>
     Ok(())
 }
 
-/// Reads the first object of the thread's list, and the seven behind it.
+/// Reads the first object of the thread's list, and the seven after it.
 fn push_list_end(items: &mut Vec<Item>, thread: u8) -> Result<(), NoMemory>
     ensures { OnOk result (items.new.items ≡ items.old.items ++ map item.Op (list_end thread)) }
 {
@@ -65,8 +65,8 @@ fn push_front(
     first: u8,
     k: u32,
 ) -> Result<(), NoMemory>
-    ensures { (seed : ℕ) → draws.old ≡ state_behind seed (k - 1)
-        → OnOk result ((draws.new ≡ state_behind seed k)
+    ensures { (seed : ℕ) → draws.old ≡ state_after seed (k - 1)
+        → OnOk result ((draws.new ≡ state_after seed k)
         × (items.new.items ≡ items.old.items ++ map item.Op (front_round first (drawn seed (k - 1)) k))) }
 {
     if k == 0 {
@@ -104,8 +104,8 @@ fn queue(alloc: Global, thread: u8, mut draws: SplitMix64, size: u32) -> Result<
 
 /// The look at one of four lists that every sixteenth round takes.
 fn push_look(items: &mut Vec<Item>, draws: &mut SplitMix64, k: u32) -> Result<(), NoMemory>
-    ensures { (seed : ℕ) → draws.old ≡ state_behind seed (k + k / 16 + 1)
-        → OnOk result ((draws.new ≡ state_behind seed (k + 1 + (k + 1) / 16))
+    ensures { (seed : ℕ) → draws.old ≡ state_after seed (k + k / 16 + 1)
+        → OnOk result ((draws.new ≡ state_after seed (k + 1 + (k + 1) / 16))
         × (items.new.items ≡ items.old.items ++ map item.Op (look_round (drawn seed (k + k / 16 + 1)) k))) }
 {
     if k % 16 != 15 {

@@ -10,7 +10,7 @@ use thiserror::Error;
 pub enum Workload {
     /// A list that grows at its front, of which only the front is read again.
     List,
-    /// A queue that grows faster than it is taken from, whose objects are reached from those behind them.
+    /// A queue that grows faster than it is taken from, whose objects are reached from those after them.
     Queue,
     /// A table of 62 lists that grow at their fronts, of which only four are read again.
     Table,

@@ -28,16 +28,16 @@ pub take-rest : (bytes : List ℕ) (at : ℕ) → take (length bytes - at) (drop
 take-rest bytes at =
     ap (λ n. take n (drop at bytes)) (sym (length-drop at bytes)) ∙ take-length (drop at bytes)
 
--- A piece of n bytes, in front of what a buffer had behind it, is what was left but for what is left then.
-pub front_taken : (xs : List ℕ) (pos start n : ℕ) (piece behind : List ℕ) → start ≡ min (length xs) pos
+-- A piece of n bytes, in front of what a buffer had after it, is what was left but for what is left then.
+pub front_taken : (xs : List ℕ) (pos start n : ℕ) (piece after : List ℕ) → start ≡ min (length xs) pos
     → n ≤ length xs - start → piece ≡ take n (take (length xs - start) (drop start xs))
-    → drop pos xs ≡ take n (piece ++ behind) ++ drop (start + n) xs
-front_taken xs pos start n piece behind begins fits e =
+    → drop pos xs ≡ take n (piece ++ after) ++ drop (start + n) xs
+front_taken xs pos start n piece after begins fits e =
     let flat : piece ≡ take n (drop start xs) = rw (take-rest xs start) at e in
     let len : length piece ≡ n = ap length flat ∙ length-take n (drop start xs)
     ∙ (omega (arith, length-drop start xs)) in
-    let front : take n (piece ++ behind) ≡ piece = ap (λ m. take m (piece ++ behind)) (sym len)
-    ∙ take-append_seam piece behind in
+    let front : take n (piece ++ after) ≡ piece = ap (λ m. take m (piece ++ after)) (sym len)
+    ∙ take-append_seam piece after in
     let whole : drop start xs ≡ drop pos xs = ap (λ m. drop m xs) begins ∙ drop-min pos xs in
     let within : start ≤ length xs = omega arith in
     sym (ap (λ bytes. bytes ++ drop (start + n) xs) (front ∙ flat) ∙ drop-front xs start n within ∙ whole)

@@ -10,7 +10,7 @@ use Rattle.melt_io.proofs.Fronts.{drop-min, take-rest}
 use Rattle.melt_io.proofs.WordBytes.{get_or-padded}
 use Rattle.melt_io.specs.Outside.{SameOutside, overlaid, words_at, with_words}
 
--- the first items, where blank ones enough stand behind
+-- the first items, where blank ones enough stand after
 take-padded : {A : Type 0} (blank : A) (at k : ℕ) (xs : List A) → at ≤ length xs + k
     → take at (xs ++ replicate k blank) ≡ take at xs ++ replicate (at - length xs) blank
 take-padded {A} blank at k xs h = elim (cases_lt (length xs) at) [
@@ -48,7 +48,7 @@ drop-padded {A} blank end xs = elim (cases_lt end (length xs)) [
       drop_all end (xs ++ replicate (end - length xs) blank) padded ∙ sym (drop_all end xs past)
 ]
 
--- a copy of the first words, and zeros behind it
+-- a copy of the first words, and zeros after it
 front_padded : (left : List ℕ) (n k : ℕ) (front : List ℕ) → k ≡ min n (length left) → front ≡ take k left
     → front ++ drop k (replicate n 0) ≡ take n (left ++ replicate n 0)
 front_padded left n k front count e =
@@ -59,7 +59,7 @@ front_padded left n k front count e =
     ∙ ap (λ words. words ++ replicate (n - length left) 0) (e ∙ take-min n k left count)
     ∙ sym (take-padded 0 n n left fits)
 
--- a copy of what is left, and zeros behind it, in a buffer of n words
+-- a copy of what is left, and zeros after it, in a buffer of n words
 pub copied_words : (image : List ℕ) (at start n k : ℕ) (front : List ℕ) → start ≡ min (length image) at
     → k ≡ min n (length image - start) → front ≡ take k (take (length image - start) (drop start image))
     → front ++ drop k (replicate n 0) ≡ words_at image at n
@@ -81,10 +81,10 @@ overwritten {A} blank items long new at piece reached e =
     let front : take at long ≡ take at (items ++ replicate at blank)
     = ap (λ (ys : List A). take at ys) reached ∙ take-padded blank at (end - length items) items near
     ∙ sym (take-padded blank at at items far) in
-    let behind : drop end long ≡ drop end items = ap (λ (ys : List A). drop end ys) reached
+    let after : drop end long ≡ drop end items = ap (λ (ys : List A). drop end ys) reached
     ∙ drop-padded blank end items in
     e ∙ ap (λ (ys : List A). ys ++ piece ++ drop end long) front
-    ∙ ap (λ (ys : List A). take at (items ++ replicate at blank) ++ piece ++ ys) behind
+    ∙ ap (λ (ys : List A). take at (items ++ replicate at blank) ++ piece ++ ys) after
 
 -- What is written back over all of a vector is all of it.
 pub written_back : {A : Type 0} (n : ℕ) (new old : List A) → length new ≡ n
@@ -96,7 +96,7 @@ pub length-front : (image : List ℕ) (at : ℕ) → length (take at (image ++ r
 length-front image at = length-take at (image ++ replicate at 0)
     ∙ omega (arith, length-append image (replicate at 0), length-replicate {A = ℕ} at 0)
 
--- what is written changes nothing before it and behind it
+-- what is written changes nothing before it and after it
 pub with_words-outside : (image : List ℕ) (at : ℕ) (words : List ℕ)
     → SameOutside image at (length words) (with_words image at words)
 with_words-outside image at words =
@@ -110,7 +110,7 @@ with_words-outside image at words =
           let in_both : k < length (front ++ words) = omega (arith, len) in
           get_or_append_left (front ++ words) rest 0 k in_both ∙ get_or_append_left front words 0 k in_front
           ∙ get_or-take at (image ++ replicate at 0) k 0 h ∙ get_or-padded image at k;
-      behind = λ k h.
+      after = λ k h.
           let place : at + length words + (k - (at + length words)) ≡ k = omega arith in
           get_or-append_right (front ++ words) rest (at + length words) k 0 len h
           ∙ get_or-drop (at + length words) image (k - (at + length words)) 0

@@ -20,7 +20,7 @@ length-word_bytes (word ∷ words) =
     let here : length (little_bytes 8 word) ≡ 8 = length-bytes_low_first 0 8 word in
     omega (arith, length-append (little_bytes 8 word) (word_bytes words), here, length-word_bytes words)
 
--- a piece, and then the one behind it
+-- a piece, and then the one after it
 with_words-append : (image : List ℕ) (at : ℕ) (first second : List ℕ)
     → with_words (with_words image at first) (at + length first) second ≡ with_words image at (first ++ second)
 with_words-append image at first second =
@@ -67,17 +67,17 @@ Writes-append (Some old) (Some mid) None at first second one two = elim two [ ]
 Writes-append (Some old) (Some mid) (Some new) at first second one two =
     two ∙ ap (λ bytes. with_words bytes (at + length first) second) one ∙ with_words-append old at first second
 
-writes-behind : (old mid new : Option (List ℕ)) (at : ℕ) (first second : List ℕ) → WritesSoFar old at first mid
+writes-after : (old mid new : Option (List ℕ)) (at : ℕ) (first second : List ℕ) → WritesSoFar old at first mid
     → Writes mid (at + length first) second new → Writes old at (first ++ second) new
-writes-behind old mid new at [] second one two =
+writes-after old mid new at [] second one two =
     let start : at + 0 ≡ at = omega arith in
     let P : ℕ → Type 0 = λ n. Writes mid n second new in
     let there : Writes mid at second new = subst P start two in
     let Q : Option (List ℕ) → Type 0 = λ told. Writes told at second new in
     subst Q one there
-writes-behind old mid new at (byte ∷ bytes) second one two = Writes-append old mid new at (byte ∷ bytes) second one two
+writes-after old mid new at (byte ∷ bytes) second one two = Writes-append old mid new at (byte ∷ bytes) second one two
 
--- the words up to `end`, behind those up to `done`
+-- the words up to `end`, after those up to `done`
 pub writes-run : (old mid new : Option (List ℕ)) (at : ℕ) (words : List ℕ) {done : ℕ} (end : ℕ) → done < end
     → end ≤ length words → WritesSoFar old (8 * at) (word_bytes (take done words)) mid
     → Writes mid (8 * (at + done)) (word_bytes (take (end - done) (drop done words))) new
@@ -90,44 +90,44 @@ writes-run old mid new at words {done} end more fits one two =
     let place : 8 * (at + done) ≡ 8 * at + length first = omega arith in
     let there : Writes mid (8 * at + length first) second new = let P : ℕ → Type 0 =
     λ n. Writes mid n second new in subst P place two in
-    let behind : done + (end - done) ≡ end = omega arith in
+    let after : done + (end - done) ≡ end = omega arith in
     let whole : first ++ second ≡ word_bytes (take end words)
     = sym (flat_map-append (little_bytes 8) (take done words) (take (end - done) (drop done words)))
-    ∙ ap word_bytes (sym (take-add done (end - done) words) ∙ ap (λ n. take n words) behind) in
+    ∙ ap word_bytes (sym (take-add done (end - done) words) ∙ ap (λ n. take n words) after) in
     let count : length (word_bytes (take end words)) ≡ 8 * end =
     length-word_bytes (take end words) ∙ ap (λ n. 8 * n) (length-take-le end words fits) in
     let P : List ℕ → Type 0 = λ bytes. Writes old (8 * at) bytes new in
     writes-so_far old new (8 * at) (word_bytes (take end words)) (omega arith)
-    (subst P whole (writes-behind old mid new (8 * at) first second one there))
+    (subst P whole (writes-after old mid new (8 * at) first second one there))
 
 SameOutside-append : {old mid new : List ℕ} {at m n : ℕ} (all : ℕ) → m + n ≤ all → SameOutside old at m mid
     → SameOutside mid (at + m) n new → SameOutside old at all new
 SameOutside-append all fits one two = record {
   before = λ k h. two.before k (omega arith) ∙ one.before k h;
-  behind = λ k h. two.behind k (omega arith) ∙ one.behind k (omega arith);
+  after = λ k h. two.after k (omega arith) ∙ one.after k (omega arith);
 }
 
 SameOutside-nothing : (old : List ℕ) (at : ℕ) → SameOutside old at 0 old
-SameOutside-nothing old at = record { before = λ k h. refl; behind = λ k h. refl }
+SameOutside-nothing old at = record { before = λ k h. refl; after = λ k h. refl }
 
--- a piece that was written, and one behind it of which the writing failed
-keeps-behind : (old mid new : Option (List ℕ)) (at : ℕ) (first : List ℕ) (n : ℕ) {all : ℕ} → length first + n ≤ all
+-- a piece that was written, and one after it of which the writing failed
+keeps-after : (old mid new : Option (List ℕ)) (at : ℕ) (first : List ℕ) (n : ℕ) {all : ℕ} → length first + n ≤ all
     → WritesSoFar old at first mid → KeepsOthers mid (at + length first) n new → KeepsOthers old at all new
-keeps-behind None None None at first n {all} fits one two = tt
-keeps-behind None None (Some new) at first n {all} fits one two = elim two [ ]
-keeps-behind None (Some mid) new at [] n {all} fits one two = cc
-keeps-behind None (Some mid) new at (byte ∷ first) n {all} fits one two = elim one [ ]
-keeps-behind (Some old) None new at [] n {all} fits one two = cc
-keeps-behind (Some old) None new at (byte ∷ first) n {all} fits one two = elim one [ ]
-keeps-behind (Some old) (Some mid) None at first n {all} fits one two = elim two [ ]
-keeps-behind (Some old) (Some mid) (Some new) at [] n {all} fits one two =
+keeps-after None None None at first n {all} fits one two = tt
+keeps-after None None (Some new) at first n {all} fits one two = elim two [ ]
+keeps-after None (Some mid) new at [] n {all} fits one two = cc
+keeps-after None (Some mid) new at (byte ∷ first) n {all} fits one two = elim one [ ]
+keeps-after (Some old) None new at [] n {all} fits one two = cc
+keeps-after (Some old) None new at (byte ∷ first) n {all} fits one two = elim one [ ]
+keeps-after (Some old) (Some mid) None at first n {all} fits one two = elim two [ ]
+keeps-after (Some old) (Some mid) (Some new) at [] n {all} fits one two =
     let same : mid ≡ old = cc in
     SameOutside-append all fits (rw same (SameOutside-nothing old at)) two
-keeps-behind (Some old) (Some mid) (Some new) at (byte ∷ first) n {all} fits one two =
+keeps-after (Some old) (Some mid) (Some new) at (byte ∷ first) n {all} fits one two =
     let written : SameOutside old at (length (byte ∷ first)) mid = rw one (with_words-outside old at (byte ∷ first)) in
     SameOutside-append all fits written two
 
--- a run of words that failed behind the first `done`
+-- a run of words that failed after the first `done`
 pub keeps-run : (old mid new : Option (List ℕ)) (at : ℕ) (first : List ℕ) (n : ℕ) {done all : ℕ} → length first ≡ done
     → done + n ≤ all → WritesSoFar old (8 * at) (word_bytes first) mid → KeepsOthers mid (8 * (at + done)) (8 * n) new
     → KeepsOthers old (8 * at) (8 * all) new
@@ -135,20 +135,20 @@ keeps-run old mid new at first n {done} count fits one two =
     let len : length (word_bytes first) ≡ 8 * done = length-word_bytes first ∙ ap (λ n. 8 * n) count in
     let place : 8 * (at + done) ≡ 8 * at + length (word_bytes first) = omega arith in
     let P : ℕ → Type 0 = λ at. KeepsOthers mid at (8 * n) new in
-    keeps-behind old mid new (8 * at) (word_bytes first) (8 * n) (omega arith) one (subst P place two)
+    keeps-after old mid new (8 * at) (word_bytes first) (8 * n) (omega arith) one (subst P place two)
 
--- n bytes more, behind the first `filled`
-pub reads-on : (told : Option (List ℕ)) (bytes buf behind : List ℕ) (at : ℕ) {filled : ℕ} (n : ℕ)
+-- n bytes more, after the first `filled`
+pub reads-on : (told : Option (List ℕ)) (bytes buf after : List ℕ) (at : ℕ) {filled : ℕ} (n : ℕ)
     → filled ≤ length bytes → n ≤ length buf → IfSome told (λ all. take filled bytes ≡ take filled (drop at all))
     → IfSome told (λ all. take n buf ≡ take n (drop (at + filled) all))
-    → IfSome told (λ all. take (filled + n) (take filled bytes ++ (buf ++ behind)) ≡ take (filled + n) (drop at all))
-reads-on None bytes buf behind at {filled} n within fits one two = tt
-reads-on (Some all) bytes buf behind at {filled} n within fits one two =
+    → IfSome told (λ all. take (filled + n) (take filled bytes ++ (buf ++ after)) ≡ take (filled + n) (drop at all))
+reads-on None bytes buf after at {filled} n within fits one two = tt
+reads-on (Some all) bytes buf after at {filled} n within fits one two =
     let len : length (take filled bytes) ≡ filled = length-take-le filled bytes within in
     let next : drop (at + filled) all ≡ drop filled (drop at all) = sym (drop-drop filled at all) in
-    ap (λ m. take (m + n) (take filled bytes ++ (buf ++ behind))) (sym len)
-    ∙ take-append-add (take filled bytes) (buf ++ behind) n
-    ∙ ap (λ read. take filled bytes ++ read) (take-append-le n buf behind fits ∙ two ∙ ap (λ left. take n left) next)
+    ap (λ m. take (m + n) (take filled bytes ++ (buf ++ after))) (sym len)
+    ∙ take-append-add (take filled bytes) (buf ++ after) n
+    ∙ ap (λ read. take filled bytes ++ read) (take-append-le n buf after fits ∙ two ∙ ap (λ left. take n left) next)
     ∙ ap (λ front. front ++ take n (drop filled (drop at all))) one
     ∙ sym (take-add filled n (drop at all))
 
@@ -180,9 +180,9 @@ pub reads-filled : (told : Option (List ℕ)) (at : ℕ) (bytes : List ℕ) {zer
 reads-filled None at bytes {zeros} n z k fits len taken ended zero e = tt
 reads-filled (Some all) at bytes {zeros} n z k fits len taken ended zero e =
     let there : List ℕ = drop at all in
-    let behind : List ℕ = drop (length bytes - n) (drop n bytes) in
-    let nothing : behind ≡ [] = drop_all (length bytes - n) (drop n bytes) (omega (arith, length-drop n bytes)) in
-    let padded : zeros ++ behind ≡ replicate z 0 = ap (λ rest. zeros ++ rest) nothing ∙ append-nil zeros ∙ zero in
+    let after : List ℕ = drop (length bytes - n) (drop n bytes) in
+    let nothing : after ≡ [] = drop_all (length bytes - n) (drop n bytes) (omega (arith, length-drop n bytes)) in
+    let padded : zeros ++ after ≡ replicate z 0 = ap (λ rest. zeros ++ rest) nothing ∙ append-nil zeros ∙ zero in
     let front : length (take n there) ≡ n = ap length (sym taken) ∙ length-take-le n bytes fits in
     e ∙ ap (λ rest. words_in_bytes k (take n bytes ++ rest)) padded
     ∙ ap (λ front. words_in_bytes k (front ++ replicate z 0)) taken
@@ -190,14 +190,14 @@ reads-filled (Some all) at bytes {zeros} n z k fits len taken ended zero e =
     (λ h. let past : length all ≤ at + n = ended (omega arith) in
     omega (arith, length-drop at all))
 
--- the words up to `end`, behind those up to `done`
-pub reads-more : (told : Option (List ℕ)) (at : ℕ) (words run behind : List ℕ) {done : ℕ} (end : ℕ) → done ≤ end
+-- the words up to `end`, after those up to `done`
+pub reads-more : (told : Option (List ℕ)) (at : ℕ) (words run after : List ℕ) {done : ℕ} (end : ℕ) → done ≤ end
     → done ≤ length words → length run ≡ end - done
     → IfSome told (λ all. take done words ≡ words_in_bytes done (drop (8 * at) all))
     → IfSome told (λ all. run ≡ words_in_bytes (length run) (drop (8 * (at + done)) all))
-    → IfSome told (λ all. take end (take done words ++ (run ++ behind)) ≡ words_in_bytes end (drop (8 * at) all))
-reads-more None at words run behind {done} end h within len one two = tt
-reads-more (Some all) at words run behind {done} end h within len one two =
+    → IfSome told (λ all. take end (take done words ++ (run ++ after)) ≡ words_in_bytes end (drop (8 * at) all))
+reads-more None at words run after {done} end h within len one two = tt
+reads-more (Some all) at words run after {done} end h within len one two =
     let there : List ℕ = drop (8 * at) all in
     let front : length (take done words) ≡ done = length-take-le done words within in
     let count : done + length run ≡ end = omega arith in
@@ -205,8 +205,8 @@ reads-more (Some all) at words run behind {done} end h within len one two =
     let place : 8 * at + 8 * done ≡ 8 * (at + done) = omega arith in
     let next : drop (8 * done) there ≡ drop (8 * (at + done)) all =
     drop-drop (8 * done) (8 * at) all ∙ ap (λ n. drop n all) place in
-    ap (λ read. take end read) (sym (append_assoc (take done words) run behind))
-    ∙ take_at (take done words ++ run) behind end both
+    ap (λ read. take end read) (sym (append_assoc (take done words) run after))
+    ∙ take_at (take done words ++ run) after end both
     ∙ ap (λ words. words ++ run) one
     ∙ ap (λ words. words_in_bytes done there ++ words)
     (two ∙ ap (λ bytes. words_in_bytes (length run) bytes) (sym next))

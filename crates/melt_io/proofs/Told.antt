@@ -40,7 +40,7 @@ TakesFront-append (Some old) (Some mid) None first second one two = elim two [ ]
 TakesFront-append (Some old) (Some mid) (Some new) first second one two =
     one ∙ ap (λ bytes. first ++ bytes) two ∙ sym (append_assoc first second new)
 
--- A front with nothing behind it is all.
+-- A front with nothing after it is all.
 pub TakesFront-all : (old left : Option (List ℕ)) (front : List ℕ) → TakesFront old front left
     → IfSome left (λ bytes. bytes ≡ []) → IfSome old (λ bytes. front ≡ bytes)
 TakesFront-all None None front taken ended = tt
@@ -70,13 +70,13 @@ TakesFront-on old mid new first after one (second, e, two) =
     subst P (sym e) (TakesFront-append old mid new first second one two)
 
 -- a front, and then a count of bytes
-pub TakesCount-behind : (old mid new : Option (List ℕ)) (front : List ℕ) (n : ℕ) → TakesFront old front mid
+pub TakesCount-after : (old mid new : Option (List ℕ)) (front : List ℕ) (n : ℕ) → TakesFront old front mid
     → TakesCount mid n new → TakesCount old (length front + n) new
-TakesCount-behind None None None front n one two = tt
-TakesCount-behind None None (Some new) front n one two = elim two [ ]
-TakesCount-behind None (Some mid) new front n one two = elim one [ ]
-TakesCount-behind (Some old) None new front n one two = elim one [ ]
-TakesCount-behind (Some old) (Some mid) None front n one two = elim two [ ]
-TakesCount-behind (Some old) (Some mid) (Some new) front n one (fits, e) =
+TakesCount-after None None None front n one two = tt
+TakesCount-after None None (Some new) front n one two = elim two [ ]
+TakesCount-after None (Some mid) new front n one two = elim one [ ]
+TakesCount-after (Some old) None new front n one two = elim one [ ]
+TakesCount-after (Some old) (Some mid) None front n one two = elim two [ ]
+TakesCount-after (Some old) (Some mid) (Some new) front n one (fits, e) =
     let whole : length old ≡ length front + length mid = ap length one ∙ length-append front mid in
     (omega arith, sym (ap (λ bytes. drop (length front + n) bytes) one ∙ drop-append-add front mid n ∙ sym e))

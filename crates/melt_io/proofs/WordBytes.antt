@@ -38,11 +38,11 @@ words_in_bytes-bytes (word ∷ words) fits =
     little_number-reads_back 8 word (word_bytes words) (fits 0 0 (omega arith)) in
     let left : drop 8 (little_bytes 8 word ++ word_bytes words) ≡ word_bytes words =
     drop_at (little_bytes 8 word) (word_bytes words) 8 (length-bytes_low_first 0 8 word) in
-    let behind : words_in_bytes (length words) (word_bytes words) ≡ words =
+    let after : words_in_bytes (length words) (word_bytes words) ≡ words =
     words_in_bytes-bytes words (λ k d h. fits (suc k) d (omega arith)) in
     ap (λ first. first ∷ words_in_bytes (length words) (drop 8 (little_bytes 8 word ++ word_bytes words))) here
     ∙ ap (λ bytes. word ∷ words_in_bytes (length words) bytes) left
-    ∙ ap (λ rest. word ∷ rest) behind
+    ∙ ap (λ rest. word ∷ rest) after
 
 -- A number has no more of the bytes than its own.
 little_from-same : (i n : ℕ) (xs ys : List ℕ) → ((j : ℕ) → j < i + n → get_or xs j 0 ≡ get_or ys j 0)
@@ -50,19 +50,19 @@ little_from-same : (i n : ℕ) (xs ys : List ℕ) → ((j : ℕ) → j < i + n �
 little_from-same i zero xs ys same = refl
 little_from-same i (suc n) xs ys same =
     let here : get_or xs i 0 ≡ get_or ys i 0 = same i (omega arith) in
-    let behind : little_from (suc i) n xs ≡ little_from (suc i) n ys =
+    let after : little_from (suc i) n xs ≡ little_from (suc i) n ys =
     little_from-same (suc i) n xs ys (λ j h. same j (omega arith)) in
-    ap (λ byte. byte + 256 * little_from (suc i) n xs) here ∙ ap (λ rest. get_or ys i 0 + 256 * rest) behind
+    ap (λ byte. byte + 256 * little_from (suc i) n xs) here ∙ ap (λ rest. get_or ys i 0 + 256 * rest) after
 
 words_in_bytes-same : (n : ℕ) (xs ys : List ℕ) → ((i : ℕ) → i < 8 * n → get_or xs i 0 ≡ get_or ys i 0)
     → words_in_bytes n xs ≡ words_in_bytes n ys
 words_in_bytes-same zero xs ys same = refl
 words_in_bytes-same (suc n) xs ys same =
     let here : little_number 8 xs ≡ little_number 8 ys = little_from-same 0 8 xs ys (λ j h. same j (omega arith)) in
-    let behind : words_in_bytes n (drop 8 xs) ≡ words_in_bytes n (drop 8 ys)
+    let after : words_in_bytes n (drop 8 xs) ≡ words_in_bytes n (drop 8 ys)
     = words_in_bytes-same n (drop 8 xs) (drop 8 ys) (λ i h. get_or-drop 8 xs i 0 ∙ same (8 + i) (omega arith)
     ∙ sym (get_or-drop 8 ys i 0)) in
-    ap (λ word. word ∷ words_in_bytes n (drop 8 xs)) here ∙ ap (λ words. little_number 8 ys ∷ words) behind
+    ap (λ word. word ∷ words_in_bytes n (drop 8 xs)) here ∙ ap (λ words. little_number 8 ys ∷ words) after
 
 get_or-zeros : (z i : ℕ) → get_or {A = ℕ} (replicate z 0) i 0 ≡ 0
 get_or-zeros z i = elim (cases_lt i z) [
@@ -82,10 +82,10 @@ get_or-padded xs z i = elim (cases_lt i (length xs)) [
 pub words_in_bytes-padded : (n z : ℕ) (xs : List ℕ) → words_in_bytes n (xs ++ replicate z 0) ≡ words_in_bytes n xs
 words_in_bytes-padded n z xs = words_in_bytes-same n (xs ++ replicate z 0) xs (λ i h. get_or-padded xs z i)
 
-pub words_in_bytes-front : (n : ℕ) (front behind : List ℕ) → length front ≡ 8 * n
-    → words_in_bytes n (front ++ behind) ≡ words_in_bytes n front
-words_in_bytes-front n front behind len =
-    words_in_bytes-same n (front ++ behind) front (λ i h. get_or_append_left front behind 0 i (omega arith))
+pub words_in_bytes-front : (n : ℕ) (front after : List ℕ) → length front ≡ 8 * n
+    → words_in_bytes n (front ++ after) ≡ words_in_bytes n front
+words_in_bytes-front n front after len =
+    words_in_bytes-same n (front ++ after) front (λ i h. get_or_append_left front after 0 i (omega arith))
 
 pub words_in_bytes-append : (m n : ℕ) (bytes : List ℕ) → words_in_bytes (m + n) bytes
     ≡ words_in_bytes m bytes ++ words_in_bytes n (drop (8 * m) bytes)

@@ -53,7 +53,7 @@ Writes (Some old) at words None = ⊥
 -- Each word before `at` and from `at + n` on is as before, where words are told.
 pub record SameOutside (old : List ℕ) (at n : ℕ) (new : List ℕ) : Type 0 where
   pub before : (k : ℕ) → k < at → slice_index new k ≡ slice_index old k
-  pub behind : (k : ℕ) → at + n ≤ k → slice_index new k ≡ slice_index old k
+  pub after : (k : ℕ) → at + n ≤ k → slice_index new k ≡ slice_index old k
 
 abbrev pub KeepsOthers : Option (List ℕ) → ℕ → ℕ → Option (List ℕ) → Type 0
 KeepsOthers None at n None = Unit {0}

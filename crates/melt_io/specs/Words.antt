@@ -3,7 +3,7 @@ use Rattle.std.specs.Prelude.{ℕ, zero, suc, List, [], ◌∷◌, drop}
 use Rattle.std.specs.List.{flat_map}
 use Rattle.byteorder.specs.Endian.{little_bytes, little_number}
 
--- the 8 bytes of each word, the lowest first, one word behind the other
+-- the 8 bytes of each word, the lowest first, one word after the other
 abbrev pub word_bytes : List ℕ → List ℕ
 word_bytes words = flat_map (little_bytes 8) words
 

@@ -4,7 +4,7 @@ ghost use Rattle.melt_io.specs.Words.{word_bytes, words_in_bytes};
 
 use byteorder::{ByteOrder, LittleEndian};
 
-/// Writes the bytes of each word, one word behind the other.
+/// Writes the bytes of each word, one word after the other.
 pub fn put_words(words: &[u64], out: &mut [u8])
     requires { length out.old ≡ 8 * length words.now }
     ensures { out.new ≡ word_bytes words.now }

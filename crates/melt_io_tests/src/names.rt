@@ -72,9 +72,9 @@ fn word_of<R: RecordReader>(reader: &mut R, at: u8) -> Option<u64> {
 
 /// Reads words in turn by two readers of a disk of which each word is its own number.
 fn read_in_turn<R: RecordReader>(low: &mut R, high: &mut R) -> Result<(), Fail> {
-    for (at, behind) in [(1, 3), (2, 4), (1, 3)] {
-        let words = (word_of(low, at), word_of(high, behind));
-        let wanted = (Some(u64::from(at)), Some(u64::from(behind)));
+    for (at, after) in [(1, 3), (2, 4), (1, 3)] {
+        let words = (word_of(low, at), word_of(high, after));
+        let wanted = (Some(u64::from(at)), Some(u64::from(after)));
         same((at, words), (at, wanted))?;
     }
     Ok(())

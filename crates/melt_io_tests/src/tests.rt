@@ -29,7 +29,7 @@ fn reads_all_up_to_the_limit(rt: HostRuntime) -> Result<(), Fail> {
 }
 
 #[test]
-fn a_read_that_fails_behind_all_the_bytes_is_a_fault(rt: HostRuntime) -> Result<(), Fail> {
+fn a_read_that_fails_after_all_the_bytes_is_a_fault(rt: HostRuntime) -> Result<(), Fail> {
     let mut cut = source(rt.alloc(), b"12 34", &[2])?;
     let refusal = read_all(rt.alloc(), &mut cut, usize::MAX).err();
     same(

@@ -63,8 +63,8 @@ bridged {next} {prev} {next'} {prev'} a [] x [] z once apart over back_over next
   subst (λ (k : ℕ). prev' k ≡ a) chain.2.0 (back_over ∙ chain.1),
 )
 bridged {next} {prev} {next'} {prev'} a [] x (b ∷ back) z once apart over back_over nexts prevs chain =
-    let behind_x = once_rest a (x ∷ b ∷ back) once in
-    let behind_b = once_rest x (b ∷ back) behind_x in (
+    let after_x = once_rest a (x ∷ b ∷ back) once in
+    let after_b = once_rest x (b ∷ back) after_x in (
       subst (λ (k : ℕ). next' k ≡ b) chain.1 (over ∙ chain.2.0),
       subst (λ (k : ℕ). prev' k ≡ a) chain.2.0 (back_over ∙ chain.1),
       chain_lasts b back z
@@ -73,20 +73,20 @@ bridged {next} {prev} {next'} {prev'} a [] x (b ∷ back) z once apart over back
           (λ k there. prevs k (λ same. end_cases z k back
           (λ last. apart (contains_more x z (b ∷ back)
           (subst (Contains (b ∷ back)) (sym (last ∙ (same ∙ chain.2.0))) (contains_here b back))))
-          (λ among. once_first b back behind_b (subst (Contains back) (same ∙ chain.2.0) among)) there))
+          (λ among. once_first b back after_b (subst (Contains back) (same ∙ chain.2.0) among)) there))
           chain.2.2,
     )
 bridged {next} {prev} {next'} {prev'} a (y ∷ front) x back z once apart over back_over nexts prevs chain =
     let rest : List ℕ = front ++ x ∷ back in
     let once_y = once_rest a (y ∷ rest) once in
     let before = prev_in next prev y front x (cut_front next prev y front x back z chain.2) in
-    let behind = next_in next prev x back z (cut_back next prev y front x back z chain.2) in
+    let after = next_in next prev x back z (cut_back next prev y front x back z chain.2) in
     let first : a ≢ prev x = λ same. once_first a (y ∷ rest) once
     (subst (Contains (y ∷ rest)) (sym same) (Contains-append_left (y ∷ front) (x ∷ back) (prev x) before)) in
     let other : y ≢ next x = λ same. end_cases z y back
     (λ last. apart (subst (Contains (y ∷ rest)) (sym last) (contains_here y rest)))
     (λ among. once_first y rest once_y (Contains-append_right front (x ∷ back) y (contains_more x y back among)))
-    (subst (Contains (back ++ z ∷ [])) (sym same) behind) in (
+    (subst (Contains (back ++ z ∷ [])) (sym same) after) in (
       nexts a first ∙ chain.0,
       prevs y other ∙ chain.1,
       bridged y front x back z once_y (λ there. apart (contains_more y z rest there)) over back_over nexts prevs chain.2,

@@ -64,7 +64,7 @@ pub has_neighbours : {places : List Place} {all : NodeLists} {nodes lists : ℕ}
 has_neighbours node at kept (list, there) at_is =
     let bounds = near list node at kept there at_is in (bounds.prev_within, bounds.next_within)
 
--- and what is behind the place of a list
+-- and what is after the place of a list
 pub has_first : {places : List Place} {all : NodeLists} {nodes lists : ℕ} (list : ℕ) (at : Place)
     → AreKept places nodes lists all → list < length all.lists → at ≡ slice_index_or places (nodes + list) at
     → at.next < length places

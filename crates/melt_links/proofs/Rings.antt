@@ -35,7 +35,7 @@ then_is at count list below same = grind (arith, nat_tests)
 pub got : (xs : List ℕ) (at node : ℕ) → slice_get xs at ≡ Some node → Contains xs node
 got xs at node is = (at, slice_get_within xs at node is, get_or_from_slice_get xs at node node is)
 
--- what is behind the front of a chain, and behind each of its nodes
+-- what is after the front of a chain, and after each of its nodes
 chain_first : (next prev : ℕ → ℕ) (nodes a : ℕ) (xs : List ℕ) (z : ℕ) → ((k : ℕ) → Contains xs k → k < nodes)
     → nodes ≤ z → Chain next prev a xs z → node_of nodes (next a) ≡ slice_get xs 0
 chain_first next prev nodes a [] z within beyond chain = ap (node_of nodes) chain.0 ∙ no_node nodes z beyond
@@ -103,7 +103,7 @@ apart {places} {all} l m k rings here there =
           ]
     ]
 
--- what stands behind a ring's front stands in the ring
+-- what stands after a ring's front stands in the ring
 pub in_ring : (root : ℕ) (xs : List ℕ) (k : ℕ) → Contains (xs ++ root ∷ []) k → Contains (root ∷ xs) k
 in_ring root xs k there =
     end_cases root k xs (λ last. subst (Contains (root ∷ xs)) last (contains_here root xs))
@@ -130,7 +130,7 @@ pub record Between (places : List Place) (all : NodeLists) (list node : ℕ) : T
   pub split : IsSplit node (list_at all list)
   pub below : list < length all.lists
   pub before : Contains ((all.nodes + list) ∷ split.front) (prev_of places node)
-  pub behind : Contains (split.back ++ (all.nodes + list) ∷ []) (next_of places node)
+  pub after : Contains (split.back ++ (all.nodes + list) ∷ []) (next_of places node)
 
 pub between : {places : List Place} {all : NodeLists} (list node : ℕ) → AreRings places all
     → Contains (list_at all list) node → Between places all list node
@@ -146,5 +146,5 @@ between {places} {all} list node rings there =
       split = split;
       below = below;
       before = prev_in next prev root split.front node (cut_front next prev root split.front node split.back root ring);
-      behind = next_in next prev node split.back root (cut_back next prev root split.front node split.back root ring);
+      after = next_in next prev node split.back root (cut_back next prev root split.front node split.back root ring);
     }

@@ -32,10 +32,10 @@ record Bridges (old new : List Place) (node none : ℕ) : Type 0 where
   listed : list_of new node ≡ none
   lists : (k : ℕ) → k ≢ node → list_of new k ≡ list_of old k
 
--- what is behind a node of a ring stands in the ring
-behind_in : (root node : ℕ) (front back xs : List ℕ) (k : ℕ) → xs ≡ front ++ node ∷ back
+-- what is after a node of a ring stands in the ring
+after_in : (root node : ℕ) (front back xs : List ℕ) (k : ℕ) → xs ≡ front ++ node ∷ back
     → Contains (back ++ root ∷ []) k → Contains (root ∷ xs) k
-behind_in root node front back xs k is there =
+after_in root node front back xs k is there =
     elim (contains_cases root k back (in_ring root back k there)) [
       | inl same ↦ subst (Contains (root ∷ xs)) same (contains_here root xs)
       | inr among ↦ contains_more root k xs
@@ -74,8 +74,8 @@ unlinked_ring {places} {after} {all} list node none m rings there bridges below 
           let before : Contains ((all.nodes + list) ∷ list_at all list) (prev node) =
           subst (λ (ks : List ℕ). Contains ((all.nodes + list) ∷ ks) (prev node)) (sym b.split.is)
           (Contains-append_left ((all.nodes + list) ∷ b.split.front) (node ∷ b.split.back) (prev node) b.before) in
-          let behind : Contains ((all.nodes + list) ∷ list_at all list) (next node) =
-          behind_in (all.nodes + list) node b.split.front b.split.back (list_at all list) (next node) b.split.is b.behind
+          let later : Contains ((all.nodes + list) ∷ list_at all list) (next node) =
+          after_in (all.nodes + list) node b.split.front b.split.back (list_at all list) (next node) b.split.is b.after
           in
           let absent : Contains xs node → ⊥ = λ has. differ
           (sym ((rings.listed m node (rings.nodes m node has)).1 has).1
@@ -85,7 +85,7 @@ unlinked_ring {places} {after} {all} list node none m rings there bridges below 
           (apart m list k rings has (subst (Contains ((all.nodes + list) ∷ list_at all list)) (sym e) before))))
           (λ k has. bridges.prevs k (λ e. differ
           (apart m list k rings (in_ring root xs k has)
-          (subst (Contains ((all.nodes + list) ∷ list_at all list)) (sym e) behind))))
+          (subst (Contains ((all.nodes + list) ∷ list_at all list)) (sym e) later))))
           (rings.ring m below) in
           subst (λ (ks : List ℕ). Chain next' prev' root ks root) (sym (without_absent node xs absent)) lasts
     ]
@@ -282,32 +282,32 @@ near {places} {all} list node at kept there at_is =
     let before : Contains ((all.nodes + list) ∷ list_at all list) (prev_of places node) =
     subst (λ (ks : List ℕ). Contains ((all.nodes + list) ∷ ks) (prev_of places node)) (sym b.split.is)
     (Contains-append_left ((all.nodes + list) ∷ b.split.front) (node ∷ b.split.back) (prev_of places node) b.before) in
-    let behind : Contains ((all.nodes + list) ∷ list_at all list) (next_of places node) =
-    behind_in (all.nodes + list) node b.split.front b.split.back (list_at all list) (next_of places node) b.split.is
-    b.behind in
+    let later : Contains ((all.nodes + list) ∷ list_at all list) (next_of places node) =
+    after_in (all.nodes + list) node b.split.front b.split.back (list_at all list) (next_of places node) b.split.is
+    b.after in
     record {
       within = within;
       prev_within = subst (λ (k : ℕ). k < length places) prev_is (ring_within list _ rings below before);
-      next_within = subst (λ (k : ℕ). k < length places) next_is (ring_within list _ rings below behind);
+      next_within = subst (λ (k : ℕ). k < length places) next_is (ring_within list _ rings below later);
       next_is = next_is;
       prev_is = prev_is;
     }
 
 -- What is kept when a node is put first.
-pub pushes : {places : List Place} {all : NodeLists} {nodes lists : ℕ} (root list node : ℕ) (at behind front : Place)
+pub pushes : {places : List Place} {all : NodeLists} {nodes lists : ℕ} (root list node : ℕ) (at later front : Place)
     → AreKept places nodes lists all → list < length all.lists → node < all.nodes → StandsNowhere all node
     → (standing : List (List ℕ)) → standing ≡ (pushed all list node).lists → root ≡ nodes + list
     → at ≡ slice_index_or places root at
     → front
     ≡ slice_index_or (slice_set places node (record { next = at.next; prev = root; list = list })) root front
-    → behind ≡ slice_index_or (slice_set (slice_set places node (record { next = at.next; prev = root; list = list }))
-    root (record { next = node; prev = front.prev; list = front.list })) at.next behind
+    → later ≡ slice_index_or (slice_set (slice_set places node (record { next = at.next; prev = root; list = list }))
+    root (record { next = node; prev = front.prev; list = front.list })) at.next later
     → AreKept (slice_set (slice_set (slice_set places node (record { next = at.next; prev = root; list = list })) root
     (record { next = node; prev = front.prev; list = front.list })) at.next
-    (record { next = behind.next; prev = node; list = behind.list })) nodes lists
+    (record { next = later.next; prev = node; list = later.list })) nodes lists
     (record { nodes = all.nodes; lists = standing })
-pushes {places} {all} {nodes} {lists} root list node at behind front kept in_range is_node alone standing
-    standing_is root_is at_is front_is behind_is =
+pushes {places} {all} {nodes} {lists} root list node at later front kept in_range is_node alone standing
+    standing_is root_is at_is front_is after_is =
     let rings = kept.rings in
     let size = rings.size in
     let there : root ≡ all.nodes + list = omega (arith, root_is, kept.nodes_are) in
@@ -327,10 +327,10 @@ pushes {places} {all} {nodes} {lists} root list node at behind front kept in_ran
     λ k differ. get_or-set_other places node k p (record { next = 0; prev = 0; list = 0 }) differ in
     let two = sets_next one root node front (omega arith) front_is in
     let size_two = two.size in
-    let three = sets_prev _ at.next node behind (omega (arith, size_two, size_one, on_below)) behind_is in
+    let three = sets_prev _ at.next node later (omega (arith, size_two, size_one, on_below)) after_is in
     let size_three = three.size in
     let after : List Place = slice_set (slice_set one root (record { next = node; prev = front.prev; list = front.list }))
-    at.next (record { next = behind.next; prev = node; list = behind.list }) in
+    at.next (record { next = later.next; prev = node; list = later.list }) in
     let not_next : node ≢ at.next = λ e. outside all (all.nodes + list) node list (next_of places (all.nodes + list)) rings
     is_node alone refl (in_ring (all.nodes + list) (list_at all list) _
     (next_in (next_of places) (prev_of places) _ _ _ (rings.ring list in_range)))
@@ -359,22 +359,22 @@ pushes {places} {all} {nodes} {lists} root list node at behind front kept in_ran
     })
 
 -- What is kept when a node is taken out.
-pub unlinks : {places : List Place} {all : NodeLists} {nodes lists : ℕ} (node : ℕ) (at before behind out : Place)
+pub unlinks : {places : List Place} {all : NodeLists} {nodes lists : ℕ} (node : ℕ) (at before later out : Place)
     → AreKept places nodes lists all → Stands all node → (standing : List (List ℕ))
     → standing ≡ (unlinked all node).lists → at ≡ slice_index_or places node at
     → before ≡ slice_index_or places at.prev before
-    → behind ≡ slice_index_or (slice_set places at.prev
-    (record { next = at.next; prev = before.prev; list = before.list })) at.next behind
+    → later ≡ slice_index_or (slice_set places at.prev
+    (record { next = at.next; prev = before.prev; list = before.list })) at.next later
     → out ≡ slice_index_or (slice_set (slice_set places at.prev
     (record { next = at.next; prev = before.prev; list = before.list })) at.next
-    (record { next = behind.next; prev = at.prev; list = behind.list })) node out
+    (record { next = later.next; prev = at.prev; list = later.list })) node out
     → AreKept (slice_set (slice_set (slice_set places at.prev
     (record { next = at.next; prev = before.prev; list = before.list })) at.next
-    (record { next = behind.next; prev = at.prev; list = behind.list })) node
+    (record { next = later.next; prev = at.prev; list = later.list })) node
     (record { next = out.next; prev = out.prev; list = lists })) nodes lists
     (record { nodes = all.nodes; lists = standing })
-unlinks {places} {all} {nodes} {lists} node at before behind out kept (list, there) standing
-    standing_is at_is before_is behind_is out_is =
+unlinks {places} {all} {nodes} {lists} node at before later out kept (list, there) standing
+    standing_is at_is before_is after_is out_is =
     let rings = kept.rings in
     let size = rings.size in
     let bounds = near list node at kept there at_is in
@@ -382,12 +382,12 @@ unlinks {places} {all} {nodes} {lists} node at before behind out kept (list, the
     let prev_is : prev_of places node ≡ at.prev = bounds.prev_is in
     let one = sets_next places at.prev at.next before bounds.prev_within before_is in
     let size_one = one.size in
-    let two = sets_prev _ at.next at.prev behind (omega (arith, size_one, bounds.next_within)) behind_is in
+    let two = sets_prev _ at.next at.prev later (omega (arith, size_one, bounds.next_within)) after_is in
     let size_two = two.size in
     let three = sets_list _ node lists out (omega (arith, size_one, size_two, bounds.within)) out_is in
     let after : List Place = slice_set (slice_set (slice_set places at.prev
     (record { next = at.next; prev = before.prev; list = before.list })) at.next
-    (record { next = behind.next; prev = at.prev; list = behind.list })) node
+    (record { next = later.next; prev = at.prev; list = later.list })) node
     (record { next = out.next; prev = out.prev; list = lists }) in
     let bridges : Bridges places after node lists =
     record {

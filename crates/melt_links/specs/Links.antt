@@ -40,7 +40,7 @@ unlinked all node = record { nodes = all.nodes; lists = map (without node) all.l
 
 -- How this crate keeps the lists. Nothing above it names what follows.
 
--- The nodes stand behind a and before z: the next place of each is the one behind it, and each way back is as well.
+-- The nodes stand after a and before z: the next place of each is the one after it, and each way back is as well.
 abbrev pub Chain : (ℕ → ℕ) → (ℕ → ℕ) → ℕ → List ℕ → ℕ → Type 0
 Chain next prev a [] z = (next a ≡ z) × (prev z ≡ a)
 Chain next prev a (x ∷ xs) z = (next a ≡ x) × (prev x ≡ a) × Chain next prev x xs z
@@ -58,13 +58,13 @@ prev_of places k = (place_at places k).prev
 abbrev pub node_of : ℕ → ℕ → Option ℕ
 node_of nodes place = if nat_lt place nodes then Some place else None
 
--- The places behind those of the nodes are rings of none.
+-- The places after those of the nodes are rings of none.
 pub record ClosesRings (nodes : ℕ) (old new : List Place) : Type 0 where
   pub size : length new ≡ length old
   pub roots : (k : ℕ) → nodes ≤ k → k < length new → (next_of new k ≡ k) × (prev_of new k ≡ k)
   pub lists : (k : ℕ) → (place_at new k).list ≡ (place_at old k).list
 
--- Each list is a ring of its nodes and of one place more, behind those of all nodes.
+-- Each list is a ring of its nodes and of one place more, after those of all nodes.
 pub record AreRings (places : List Place) (all : NodeLists) : Type 0 where
   pub size : length places ≡ all.nodes + length all.lists
   pub ring : (list : ℕ) → list < length all.lists

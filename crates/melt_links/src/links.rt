@@ -1,4 +1,4 @@
-//! Each list is a ring: its nodes, and one place more that stands before its first node and behind its last. So a node
+//! Each list is a ring: its nodes, and one place more that stands before its first node and after its last. So a node
 //! has a neighbour on either side wherever it stands, and no list is a case of its own when it is empty.
 ghost use Rattle.std.specs.Prelude.{◌≡◌, ◌<◌, ◌^◌, ◌↔◌, ℕ, Some, length, slice_get, suc, IfOk};
 ghost use Rattle.std.specs.List.{Contains};
@@ -10,7 +10,7 @@ use std::alloc::Global;
 use std::collections::LinkedList;
 use std::marker::Model;
 
-/// A node, or the place before the first and behind the last node of a list.
+/// A node, or the place before the first and after the last node of a list.
 #[derive(Clone, Copy)]
 pub struct Place {
     pub(crate) next: u32,
@@ -22,7 +22,7 @@ pub struct Place {
 /// So many lists of nodes, each of which stands in one list at most.
 #[derive(Drop)]
 pub struct Links {
-    /// Those of the nodes, and behind them those of the lists.
+    /// Those of the nodes, and after them those of the lists.
     places: Vec<Place>,
     nodes: u32,
     lists: u32,
@@ -40,7 +40,7 @@ impl Model for Links {
         (record { nodes = links.nodes; lists = links.standing }) };
 }
 
-/// Lets each place behind those of the nodes be a ring of no node.
+/// Lets each place after those of the nodes be a ring of no node.
 fn close_rings(places: &mut [Place], nodes: u32)
     requires small { length places.old < 2 ^ 32 }
     ensures { ClosesRings nodes places.old places.new }
@@ -115,7 +115,7 @@ impl Links {
         self.node_at(self.places[root as usize].next)
     }
 
-    /// The node behind one that stands in a list, if it is not the last.
+    /// The node after one that stands in a list, if it is not the last.
     pub fn next(&self, node: u32) -> Option<u32>
         requires { Stands self.now node }
         ensures { (list at : ℕ) → slice_get (list_at self.now list) at ≡ Some node

@@ -23,7 +23,7 @@ use Rattle.melt_model.proofs.Sums.{CostsSum-same}
 abbrev OneMore : List ℕ → (ℕ → Type 0) → Type 0
 OneMore objects Is = ((n : ℕ) × Is n × (Contains objects n → ⊥)) ⊎ ((n : ℕ) → Is n → Contains objects n)
 
--- an element that is neither the first nor behind it
+-- an element that is neither the first nor after it
 not_first : (x : ℕ) (xs : List ℕ) (n : ℕ) → (x ≡ n → ⊥) → (Contains xs n → ⊥) → Contains (x ∷ xs) n → ⊥
 not_first x xs n differs none (zero, below, is) = differs is
 not_first x xs n differs none (suc k, below, is) = none (k, omega arith, is)
@@ -69,7 +69,7 @@ one_value objects (Num x) = one_of_none objects (λ n. Num x ≡ Ref n) (λ n is
 one_value objects (Ref m) = one_same objects (λ n. m ≡ n) (λ n. Ref m ≡ Ref n) (λ n. (λ is. ap Ref is, λ is. cc))
     (one_or_none objects m)
 
--- a value stands first or behind
+-- a value stands first or later
 first_held : (v : Value) (registers : List Value) (n : ℕ) → Contains (v ∷ registers) (Ref n)
     → (v ≡ Ref n) ⊎ Contains registers (Ref n)
 first_held v registers n (zero, below, is) = inl is
@@ -84,8 +84,8 @@ one_held objects (v ∷ registers) =
     (λ n. (
       λ is. elim is [
         | inl first ↦ (0, omega arith, first)
-        | inr behind ↦
-            (suc behind.0, omega (arith, behind.1), behind.2)
+        | inr after ↦
+            (suc after.0, omega (arith, after.1), after.2)
       ],
       first_held v registers n,
     ))
@@ -143,8 +143,8 @@ one_entry h objects (e ∷ entries) =
     (λ n. (
       λ is. elim is [
         | inl first ↦ (0, (e, refl, first))
-        | inr behind ↦
-            (suc behind.0, (behind.1.0, behind.1.1, behind.1.2))
+        | inr after ↦
+            (suc after.0, (after.1.0, after.1.1, after.1.2))
       ],
       first_wrote h objects e entries n,
     ))
@@ -183,7 +183,7 @@ held_value : (registers : List Value) (n : ℕ) → Contains registers (Ref n) �
 held_value [] n has = absurd (let below : has.0 < 0 = has.1 in omega arith)
 held_value (v ∷ registers) n has = elim (first_held v registers n has) [
   | inl first ↦ (0, first)
-  | inr behind ↦ let rest = held_value registers n behind in (suc rest.0, rest.1)
+  | inr after ↦ let rest = held_value registers n after in (suc rest.0, rest.1)
 ]
 
 -- the registers of the first threads, one after the other

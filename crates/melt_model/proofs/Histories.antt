@@ -20,7 +20,7 @@ use Rattle.melt_model.specs.declared.history.Slot.TheVariants.{Field, Cell, Glob
 use Rattle.melt_model.specs.declared.history.Act.TheVariants.{Make}
 use Rattle.melt_model.specs.declared.history.Entry.{Entry}
 
--- an element of the front, and the first behind it
+-- an element of the front, and the first after it
 pub slice_get-append_left : {A : Type 0} (xs ys : List A) (k : ℕ) → k < length xs
     → slice_get (xs ++ ys) k ≡ slice_get xs k
 slice_get-append_left [] ys k h = absurd (omega arith)

@@ -11,32 +11,32 @@ use Rattle.std.proofs.lemmas.List.Sums.{sum-map, sum_by-cons, sum_by-append}
 use Rattle.std.proofs.lemmas.Map.Keys.{IsDistinct-head, IsDistinct-tail, IsDistinct-cons}
 use Rattle.melt_model.specs.Alive.{CostsSum}
 
--- the first element of a list, and one behind it
+-- the first element of a list, and one after it
 contains_first : (x : ℕ) (xs : List ℕ) → Contains (x ∷ xs) x
 contains_first x xs = (0, omega arith, refl)
 
-contains_behind : (x : ℕ) (xs : List ℕ) (n : ℕ) → Contains xs n → Contains (x ∷ xs) n
-contains_behind x xs n (k, below, is) = (suc k, omega arith, is)
+contains_after : (x : ℕ) (xs : List ℕ) (n : ℕ) → Contains xs n → Contains (x ∷ xs) n
+contains_after x xs n (k, below, is) = (suc k, omega arith, is)
 
-first_or_behind : (x : ℕ) (xs : List ℕ) (n : ℕ) → Contains (x ∷ xs) n → (x ≡ n) ⊎ Contains xs n
-first_or_behind x xs n (zero, below, is) = inl is
-first_or_behind x xs n (suc k, below, is) = inr (k, omega arith, is)
+first_or_after : (x : ℕ) (xs : List ℕ) (n : ℕ) → Contains (x ∷ xs) n → (x ≡ n) ⊎ Contains xs n
+first_or_after x xs n (zero, below, is) = inl is
+first_or_after x xs n (suc k, below, is) = inr (k, omega arith, is)
 
--- what stands before an element, and what stands behind it
+-- what stands before an element, and what stands after it
 split_at : (ys : List ℕ) (x : ℕ) → Contains ys x → (front : List ℕ) × (back : List ℕ) × (ys ≡ front ++ x ∷ back)
 split_at [] x (k, below, is) = absurd (omega arith)
 split_at (y ∷ ys) x (zero, below, is) = ([], ys, ap (λ (z : ℕ). z ∷ ys) is)
 split_at (y ∷ ys) x (suc k, below, is) =
     let rest = split_at ys x (k, omega arith, is) in (y ∷ rest.0, rest.1, ap (λ (zs : List ℕ). y ∷ zs) rest.2)
 
--- another element stands before it or behind it
+-- another element stands before it or after it
 another : (front back : List ℕ) (x n : ℕ) → (x ≡ n → ⊥) → Contains (front ++ x ∷ back) n → Contains (front ++ back) n
 another front back x n differs is =
     elim (Contains-append_cases front (x ∷ back) n is) [
       | inl before ↦ Contains-append_left front back n before
-      | inr rest ↦ elim (first_or_behind x back n rest) [
+      | inr rest ↦ elim (first_or_after x back n rest) [
         | inl same ↦ absurd (differs same)
-        | inr behind ↦ Contains-append_right front back n behind
+        | inr after ↦ Contains-append_right front back n after
       ]
     ]
 
@@ -56,7 +56,7 @@ part_le cost (x ∷ xs) ys once within =
     let less : sum_by cost xs ≤ sum_by cost (split.0 ++ split.1) =
     part_le cost xs (split.0 ++ split.1) (IsDistinct-tail eqb x xs once)
     (λ n is. another split.0 split.1 x n (first_differs x xs n once is)
-    (subst (λ (zs : List ℕ). Contains zs n) split.2 (within n (contains_behind x xs n is)))) in
+    (subst (λ (zs : List ℕ). Contains zs n) split.2 (within n (contains_after x xs n is)))) in
     omega (
       arith,
       less,
@@ -70,7 +70,7 @@ part_le cost (x ∷ xs) ys once within =
 agree : (c d : ℕ → ℕ) (xs : List ℕ) → ((n : ℕ) → Contains xs n → c n ≡ d n) → sum_by c xs ≡ sum_by d xs
 agree c d [] same = refl
 agree c d (x ∷ xs) same =
-    let rest : sum_by c xs ≡ sum_by d xs = agree c d xs (λ n is. same n (contains_behind x xs n is)) in
+    let rest : sum_by c xs ≡ sum_by d xs = agree c d xs (λ n is. same n (contains_after x xs n is)) in
     omega (arith, rest, same x (contains_first x xs), sum_by-cons c x xs, sum_by-cons d x xs)
 
 -- the same set
@@ -139,10 +139,10 @@ CostsSum-more cost P n total new adds = record {
       adds.once;
   all = λ m. (
     λ is. elim is [
-      | inl old ↦ contains_behind n adds.members m ((adds.all m).0 old)
+      | inl old ↦ contains_after n adds.members m ((adds.all m).0 old)
       | inr same ↦ subst (Contains (n ∷ adds.members)) (sym same) (contains_first n adds.members)
     ],
-    λ has. elim (first_or_behind n adds.members m has) [
+    λ has. elim (first_or_after n adds.members m has) [
       | inl same ↦ inr (sym same)
       | inr old ↦
           inl ((adds.all m).1 old)

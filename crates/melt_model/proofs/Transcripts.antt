@@ -39,7 +39,7 @@ Reaches-push h a b (p ∷ ops) (r ∷ replies) o reached holds takes =
 Reaches-push h a b [] (r ∷ replies) o reached holds takes = absurd reached
 Reaches-push h a b (p ∷ ops) [] o reached holds takes = absurd reached
 
--- operations that got their replies, when no place is left, with any others behind them
+-- operations that got their replies, when no place is left, with any others after them
 Answered_from : (h : List Entry) (a b : Thread) (ops more : List Op) (replies : List Reply) → Reaches h a ops replies b
     → b.places ≡ [] → Answered h a (ops ++ more) replies
 Answered_from h a b [] more [] reached none = ap (λ (x : Thread). x.places) reached ∙ none
@@ -125,7 +125,7 @@ does_local h regs (op.Copy dst src) x y none = refl
 does_local h regs (op.Drop r) x y none = refl
 does_local h regs op.Collect x y none = refl
 
--- the thread with more places behind its own
+-- the thread with more places after its own
 abbrev pub with_places : Thread → List ℕ → Thread
 with_places a new = record { registers = a.registers; places = a.places ++ new }
 
@@ -170,7 +170,7 @@ HoldReferences-append : (h k : List Entry) (registers : List Value) → HoldRefe
     → HoldReferences (h ++ k) registers
 HoldReferences-append h k registers holds r = IsReference-append h k (value_in registers r) (holds r)
 
--- What comes behind a history, and behind the places that a thread has in it.
+-- What comes after a history, and after the places that a thread has in it.
 pub record Later : Type 0 where
   pub entries : List Entry
   pub places : List ℕ

@@ -45,7 +45,7 @@ made h = length (shapes h)
 abbrev pub shape : List Entry → ℕ → Option Shape
 shape h n = slice_get (shapes h) n
 
--- the value that an act gives to its thread, behind these entries
+-- the value that an act gives to its thread, after these entries
 abbrev pub given : List Entry → Act → Option Value
 given before (Make refs nums) = Some (Ref (made before))
 given before (Read slot value) = Some value
@@ -100,7 +100,7 @@ CanHold before (Field n i) value = IsReference before value
 CanHold before (Cell n j) value = IsNumber value
 CanHold before (Global g) value = IsReference before value
 
--- the act may stand behind these entries
+-- the act may stand after these entries
 pub record MayFollow (before : List Entry) (globals : ℕ) (act : Act) : Type 0 where
   pub read_slot : IfSome (read_of act) (λ read. IsSlot before globals read.0)
   pub read_last : IfSome (read_of act) (λ read. read.1 ≡ last before read.0)

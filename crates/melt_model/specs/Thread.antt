@@ -123,7 +123,7 @@ abbrev pub places_left : Option Act → List ℕ → List ℕ
 places_left None places = places
 places_left (Some act) places = drop 1 places
 
--- the thread behind its next operation
+-- the thread after its next operation
 abbrev pub thread_after : List Entry → Thread → Op → Thread
 thread_after h thread o = let d =
     deed h thread o in record { registers = d.registers; places = places_left d.act thread.places }

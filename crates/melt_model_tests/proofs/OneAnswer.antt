@@ -22,7 +22,7 @@ answered_more h a o ops replies d is takes =
     let here : P (deed h a o) = (λ answered. answered.2, λ answered. (refl, same, answered)) in
     subst P (sym is) here
 
--- an operation that got its reply, and the thread behind it
+-- an operation that got its reply, and the thread after it
 pub answered_drop : (h : List Entry) (a : Thread) (ops : List Op) (replies : List Reply) (k : ℕ) {o : Op} (r : Reply)
     {d : Deed} {left : List ℕ} → k < length ops → k < length replies → o ≡ get_or ops k o → d ≡ deed h a o
     → d.reply ≡ get_or replies k r → Takes h d.act a.places → left ≡ places_left d.act a.places

@@ -135,7 +135,7 @@ fn can_hold(history: &[Entry], slot: Slot, value: Value) -> bool
     }
 }
 
-/// Whether the act may stand behind these entries.
+/// Whether the act may stand after these entries.
 fn may_follow(before: &[Entry], globals: u8, act: Act) -> bool
     ensures { IsTrue result ↔ MayFollow before.now globals act }
 {
@@ -347,7 +347,7 @@ fn act_at(history: &[Entry], place: usize) -> Option<Act>
     history.get(place).map(|entry| entry.act)
 }
 
-/// What an act gives to its thread, behind these entries.
+/// What an act gives to its thread, after these entries.
 fn given(before: &[Entry], act: Act) -> Option<Value>
     ensures { result ≡ given before.now act }
 {

@@ -21,8 +21,8 @@ use Rattle.melt_copy.specs.declared.forwarding.Relocation.{Relocation}
 use Rattle.melt_copy.specs.Tracking.{goes, word_numbered}
 use Rattle.melt_copy.specs.Copied.{MayRename, NumbersAre}
 use Rattle.melt_copy.specs.Moving.{words_in}
-use Rattle.melt_copy.proofs.Collects.{can_rename, none_behind}
-use Rattle.melt_copy.proofs.Places.{place_behind, place_below, place_found, same_place, same_source}
+use Rattle.melt_copy.proofs.Collects.{can_rename, none_after}
+use Rattle.melt_copy.proofs.Places.{place_after, place_below, place_found, same_place, same_source}
 use Rattle.melt_copy.proofs.Sources.{found_words, source_shape, goes as goes_to}
 use Rattle.melt_move.specs.declared.commit.Copied.{Copied}
 use Rattle.melt_move.specs.declared.decision.Decision.{Decision}
@@ -112,9 +112,9 @@ module _ (heap : Heap) (held : List Registers) (disk : OnDisk) (decision : Decis
     within k m at =
         let place = place_below s (goes decision.choice.stay) moves decision.choice.stay.next k m
         decided.choice.stay at in
-        let behind = decided.choice.stay.behind in
+        let later = decided.choice.stay.after in
         let size = stand.size in
-        (place.0, (let below = place.1 in omega (arith, below, behind, size)))
+        (place.0, (let below = place.1 in omega (arith, below, later, size)))
 
     -- the home word of an object at its new place is that from before
     pub put_home : (k : ℕ) (m : Relocation) → slice_get decision.choice.stay.moves.items k ≡ Some m
@@ -246,7 +246,7 @@ module _ (heap : Heap) (held : List Registers) (disk : OnDisk) (decision : Decis
           let all = stand.size in
           (place.0, (let below = place.1 in omega (arith, below, size, inside, words, all)));
       apart = λ i j m n at also less.
-          place_behind i j decided.choice.stay at also less;
+          place_after i j decided.choice.stay at also less;
       once = λ i j m n at also same.
           (same_source i j decided.choice.stay at also same).0;
       old_homes = λ k m at. elim (decided.old_homes m.from (stays_reached k m at)) [
@@ -282,8 +282,8 @@ names_may_go heap held disk decision decided maps formed made names numbers are 
     let inside = decided.seen.whole.inside in
     let words = stays_within heap held disk decision decided in
     can_rename (length heap.space.list) heap.maps maps heap.names moves numbers names made.names are
-    (omega (arith, inside)) (λ k above. none_behind maps s k formed (omega (arith, above))) (λ k m at.
+    (omega (arith, inside)) (λ k above. none_after maps s k formed (omega (arith, above))) (λ k m at.
     let place = place_below s (goes decision.choice.stay) moves decision.choice.stay.next k m stay at in
-    (place.0, (let below = place.1 in let behind = stay.behind in omega (arith, below, behind, words))))
+    (place.0, (let below = place.1 in let later = stay.after in omega (arith, below, later, words))))
     (λ i j m n here there same.
     (same_place i j stay here there same).0)

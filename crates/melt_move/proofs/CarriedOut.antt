@@ -1,4 +1,4 @@
--- What was decided was done: the heap, the registers and the disk behind a Move collection.
+-- What was decided was done: the heap, the registers and the disk after a Move collection.
 use Rattle.std.proofs.Common.{◌≡◌, ◌≢◌, ◌⊎◌, inl, inr, ℕ, ◌+◌, ◌<◌, ◌≤◌, List, length, refl, sym}
 use Rattle.std.proofs.Common.{◌∙◌, ap}
 use Rattle.std.proofs.Common.{subst, arith}
@@ -24,7 +24,7 @@ use Rattle.melt_scion.specs.declared.registers.Registers.{Registers}
 use Rattle.melt_scion.specs.declared.heap.Heap.{Heap}
 use Rattle.melt_copy.specs.declared.forwarding.Relocation.{Relocation}
 use Rattle.melt_copy.specs.Tracking.{word_numbered}
-use Rattle.melt_copy.proofs.Places.{place_behind, same_place}
+use Rattle.melt_copy.proofs.Places.{place_after, same_place}
 use Rattle.melt_move.specs.declared.choice.Departure.{Departure}
 use Rattle.melt_move.specs.declared.commit.Copied.{Copied}
 use Rattle.melt_move.specs.declared.decision.Decision.{Decision}
@@ -73,10 +73,10 @@ module _ (maps : Maps) (heap : Heap) (held : List Registers) (disk : OnDisk) (de
             let to_is : n.to ≡ m.to = ap (λ (x : Relocation). x.to) one in
             some (ap (given_home decision.homes) one ∙ home (omega (arith, same, to_is)))
         | inr (inl less) ↦
-            let apart = place_behind j k decided.choice.stay other there less in
+            let apart = place_after j k decided.choice.stay other there less in
             omega (arith, apart, same, from)
         | inr (inr less) ↦
-            let apart = place_behind k j decided.choice.stay there other less in
+            let apart = place_after k j decided.choice.stay there other less in
             omega (arith, apart, same, to)
       ])
       ∙ put_word heap held disk decision decided maps formed made freed frees mid after copied stand put at
@@ -94,7 +94,7 @@ module _ (maps : Maps) (heap : Heap) (held : List Registers) (disk : OnDisk) (de
     home = home_by (word_at heap.space) decision
 
     stands : (k : ℕ) (m : Relocation) → slice_get decision.choice.stay.moves.items k ≡ Some m
-        → StandsAt s t decision (nat_lt k decision.front) m
+        → StandsAt s t decision (nat_lt k decision.held_count) m
     stands k m at =
         let object = stand.objects k m at in
         record {
@@ -183,7 +183,7 @@ module _ (maps : Maps) (heap : Heap) (held : List Registers) (disk : OnDisk) (de
     body_stays j d at there from to =
         stubs.others at (λ k m stays some. elim (apart_from_stubs j d there k m stays some) [
           | inl before ↦ inl (omega (arith, before, to))
-          | inr behind ↦ inr (omega (arith, behind, from))
+          | inr later ↦ inr (omega (arith, later, from))
         ])
 
     has_body : HomesApart home decision.choice.leaving.items → (j : ℕ) (d : Departure)
@@ -225,7 +225,7 @@ module _ (maps : Maps) (heap : Heap) (held : List Registers) (disk : OnDisk) (de
     is_move = record {
       whole = decided.seen.whole;
       choice = decided.choice;
-      front = decided.front;
+      held_count = decided.held_count;
       gives = decided.homes;
       first = decided.first;
       first_end = decided.first_end;
@@ -234,7 +234,7 @@ module _ (maps : Maps) (heap : Heap) (held : List Registers) (disk : OnDisk) (de
       globals = ap length have.globals ∙ (ap length put.globals ∙ globals.size);
       free =
           (let used = have.used in let were = put.space.used in let size = stand.size in
-          let behind = decided.choice.stay.behind in omega (arith, used, were, size, behind));
+          let later = decided.choice.stay.after in omega (arith, used, were, size, later));
       objects = stands;
       kept_home = λ k m at none.
           word_kept k m (m.to + 1) at (omega arith) (omega arith) (λ same. none) ∙ (stand.objects k m at).home;

@@ -48,20 +48,20 @@ pub record HasChosen (space : SpaceWords) (s : State) (live : LiveSet) (stay : F
       → i ≡ j
   pub each : (i : ℕ) (m : Relocation) → i < count → slice_get live.forwarding.moves.items i ≡ Some m
       → (goes stay m.from ≢ 0) ⊎ ((k : ℕ) × (d : Departure) × (slice_get leaving k ≡ Some d) × (d.from ≡ m.from))
-  pub all_held : count ≤ live.front → stay.moves.items ≡ take count live.forwarding.moves.items
-  pub first : live.front ≤ count
-      → take live.front stay.moves.items ≡ take live.front live.forwarding.moves.items
+  pub all_held : count ≤ live.held_count → stay.moves.items ≡ take count live.forwarding.moves.items
+  pub first : live.held_count ≤ count
+      → take live.held_count stay.moves.items ≡ take live.held_count live.forwarding.moves.items
 
 -- nothing stands in an empty list
 pub none_there : {A : Type 0} (xs : List A) (k : ℕ) (x : A) → xs ≡ [] → slice_get xs k ≡ Some x → ⊥
 none_there xs k x empty at = let below = slice_get_within xs k x at in let nought =
     ap length empty in omega (arith, below, nought)
 
--- nothing stands behind the last element
-not_behind : {A : Type 0} (xs : List A) (k : ℕ) (x : A) → length xs ≤ k → slice_get xs k ≡ Some x → ⊥
-not_behind xs k x past at = let below = slice_get_within xs k x at in omega (arith, below, past)
+-- nothing stands after the last element
+not_after : {A : Type 0} (xs : List A) (k : ℕ) (x : A) → length xs ≤ k → slice_get xs k ≡ Some x → ⊥
+not_after xs k x past at = let below = slice_get_within xs k x at in omega (arith, below, past)
 
--- the element behind the seam
+-- the element after the seam
 further : {A : Type 0} (xs : List A) (y z : A) (ys : List A) → slice_get (xs ++ y ∷ z ∷ ys) (length xs + 1) ≡ Some z
 further [] y z ys = refl
 further (x ∷ xs) y z ys =
@@ -77,7 +77,7 @@ more_found live count address found = record {
   from = found.from;
 }
 
--- an object that was not found before is put behind the others
+-- an object that was not found before is put after the others
 push_found : (space : SpaceWords) (s : State) (a b : Forwarding) (address : ℕ) (rest : List Relocation)
     → Tracks space s b → b.moves.items ≡ a.moves.items ++ rest
     → ((k : ℕ) (m : Relocation) → slice_get b.moves.items k ≡ Some m
@@ -94,7 +94,7 @@ push_found space s a b address (m ∷ []) tracks moves only known fresh =
     ∙ slice_get-append_seam a.moves.items m [] in (
       m,
       elim (only (length a.moves.items) m at) [
-        | inl old ↦ absurd (not_behind a.moves.items (length a.moves.items) m (omega arith) old)
+        | inl old ↦ absurd (not_after a.moves.items (length a.moves.items) m (omega arith) old)
         | inr new ↦ new
       ],
       moves,
@@ -103,18 +103,18 @@ push_found space s a b address (m ∷ n ∷ rest) tracks moves only known fresh 
     let at : slice_get b.moves.items (length a.moves.items) ≡ Some m =
     ap (λ (ms : List Relocation). slice_get ms (length a.moves.items)) moves
     ∙ slice_get-append_seam a.moves.items m (n ∷ rest) in
-    let behind : slice_get b.moves.items (length a.moves.items + 1) ≡ Some n =
+    let after : slice_get b.moves.items (length a.moves.items + 1) ≡ Some n =
     ap (λ (ms : List Relocation). slice_get ms (length a.moves.items + 1)) moves
     ∙ further a.moves.items m n rest in
     let first : m.from ≡ address = elim (only (length a.moves.items) m at) [
-      | inl old ↦ absurd (not_behind a.moves.items (length a.moves.items) m (omega arith) old)
+      | inl old ↦ absurd (not_after a.moves.items (length a.moves.items) m (omega arith) old)
       | inr new ↦ new
     ] in
-    let second : n.from ≡ address = elim (only (length a.moves.items + 1) n behind) [
-      | inl old ↦ absurd (not_behind a.moves.items (length a.moves.items + 1) n (omega arith) old)
+    let second : n.from ≡ address = elim (only (length a.moves.items + 1) n after) [
+      | inl old ↦ absurd (not_after a.moves.items (length a.moves.items + 1) n (omega arith) old)
       | inr new ↦ new
     ] in
-    let same = same_source (length a.moves.items) (length a.moves.items + 1) tracks.holds at behind
+    let same = same_source (length a.moves.items) (length a.moves.items + 1) tracks.holds at after
     (first ∙ sym second) in
     absurd (omega (arith, same.0))
 
@@ -132,22 +132,22 @@ module _ (space : SpaceWords) (s : State) (live : LiveSet) (seen : IsSeen space 
       let below = found.below in omega (arith, below, same.0)
 
   -- the first ones are in registers
-  held_before : (k : ℕ) (m : Relocation) → slice_get live.forwarding.moves.items k ≡ Some m → k < live.front
+  held_before : (k : ℕ) (m : Relocation) → slice_get live.forwarding.moves.items k ≡ Some m → k < live.held_count
       → HoldsAt s m.from
   held_before k m at before =
       let there = is.held.each k m at before in
       record { thread = there.0; register = there.1; holds = there.2 }
 
   -- no others are
-  held_only : (k : ℕ) (m : Relocation) → slice_get live.forwarding.moves.items k ≡ Some m → live.front ≤ k
+  held_only : (k : ℕ) (m : Relocation) → slice_get live.forwarding.moves.items k ≡ Some m → live.held_count ≤ k
       → HoldsAt s m.from → ⊥
-  held_only k m at behind holds =
+  held_only k m at after holds =
       let first = (is.whole.objects m.from (is.found.whole k m at).reached).1.first in
       let full : s.register holds.thread holds.register ≢ 0 = λ none. let here = holds.holds in
       omega (arith, none, here, first) in
       let there = is.held.all holds.thread holds.register full in
       let same = same_source there.0 k is.found there.2 at (there.4 ∙ holds.holds) in
-      let before = there.3 in omega (arith, before, behind, same.0)
+      let before = there.3 in omega (arith, before, after, same.0)
 
   -- nobody was decided on
   pub chosen_start : (stay : Forwarding) (leaving : List Departure) (used : ℕ) → used ≡ space.used
@@ -168,23 +168,23 @@ module _ (space : SpaceWords) (s : State) (live : LiveSet) (seen : IsSeen space 
     each = λ i m below at. absurd (omega (arith, below));
     all_held = λ within. moves;
     first = λ none.
-        let nought : live.front ≡ 0 = omega (arith, none) in
+        let nought : live.held_count ≡ 0 = omega (arith, none) in
         subst (λ (n : ℕ). take n stay.moves.items ≡ take n live.forwarding.moves.items) (sym nought) refl;
   }
 
   -- one more leaves
   pub chosen_leaves : (stay : Forwarding) (leaving : List Departure) (count : ℕ) (m : Relocation) (d : Departure)
       → HasChosen space s live stay leaving count → slice_get live.forwarding.moves.items count ≡ Some m
-      → live.front ≤ count
+      → live.held_count ≤ count
       → ((h : Header) → IsHeader h → word_at space m.from ≡ header_word h → true ≡ h.stale)
       → d.from ≡ m.from → d.shape ≡ m.shape
       → HasChosen space s live stay (leaving ++ d ∷ []) (count + 1)
-  chosen_leaves stay leaving count m d before at behind stale from shape =
+  chosen_leaves stay leaving count m d before at after stale from shape =
       let move = is.found.whole count m at in
       let word : word_at space m.from ≡ header_word move.header = sym (seen.word m.from) ∙ move.starts.word in
       let goes_away : Leaves Move s m.from = (
         move.reached,
-        held_only count m at behind,
+        held_only count m at after,
         (move.header, move.starts, sym (stale move.header move.starts.in_range word)),
       ) in
       let was : slice_get (leaving ++ d ∷ []) (length leaving) ≡ Some d = slice_get-append_seam leaving d [] in
@@ -234,8 +234,8 @@ module _ (space : SpaceWords) (s : State) (live : LiveSet) (seen : IsSeen space 
             )
           ]
         ];
-        all_held = λ within. absurd (omega (arith, within, behind));
-        first = λ later. before.first behind;
+        all_held = λ within. absurd (omega (arith, within, after));
+        first = λ later. before.first after;
       }
 
   -- the place of the object that is found next is the same while all that were found stay
@@ -269,7 +269,7 @@ module _ (space : SpaceWords) (s : State) (live : LiveSet) (seen : IsSeen space 
   -- one more stays
   pub chosen_stays : (stay b : Forwarding) (leaving : List Departure) (count : ℕ) (m : Relocation)
       → HasChosen space s live stay leaving count → slice_get live.forwarding.moves.items count ≡ Some m
-      → (count < live.front) ⊎ ((h : Header) → IsHeader h → word_at space m.from ≡ header_word h → false ≡ h.stale)
+      → (count < live.held_count) ⊎ ((h : Header) → IsHeader h → word_at space m.from ≡ header_word h → false ≡ h.stale)
       → Grows stay b
       → ((k : ℕ) (x : Relocation) → slice_get b.moves.items k ≡ Some x
       → (slice_get stay.moves.items k ≡ Some x) ⊎ (x.from ≡ m.from))
@@ -290,7 +290,7 @@ module _ (space : SpaceWords) (s : State) (live : LiveSet) (seen : IsSeen space 
       let here : WasFound live (count + 1) m.from =
       record { index = count; move = m; below = omega arith; is = at; from = refl } in
       let below : count < length found = slice_get_within found count m at in
-      let all_stay : count < live.front → b.moves.items ≡ take (count + 1) found = λ held.
+      let all_stay : count < live.held_count → b.moves.items ≡ take (count + 1) found = λ held.
       same_move stay b count m new.0 tracks at (before.all_held (omega (arith, held))) new.2 new.1 in
       record {
         tracks = tracks;
@@ -311,20 +311,21 @@ module _ (space : SpaceWords) (s : State) (live : LiveSet) (seen : IsSeen space 
           ]
         ];
         all_held = λ within. all_stay (omega (arith, within));
-        first = λ later. elim (cases_lt count live.front) [
+        first = λ later. elim (cases_lt count live.held_count) [
           | inl held ↦
-              let whole : count + 1 ≡ live.front = omega (arith, held, later) in
-              ap (take live.front) (all_stay held)
-              ∙ (ap (λ (n : ℕ). take live.front (take n found)) whole
-              ∙ take-take live.front live.front found (omega arith))
+              let whole : count + 1 ≡ live.held_count = omega (arith, held, later) in
+              ap (take live.held_count) (all_stay held)
+              ∙ (ap (λ (n : ℕ). take live.held_count (take n found)) whole
+              ∙ take-take live.held_count live.held_count found (omega arith))
           | inr past ↦
               let same = before.first past in
-              let sizes : length (take live.front stay.moves.items) ≡ length (take live.front found) = ap length same in
-              let stays = length-take live.front stay.moves.items in
-              let finds = length-take live.front found in
-              let long : live.front ≤ length stay.moves.items = omega (arith, sizes, stays, finds, below, past) in
-              ap (take live.front) grows.moves
-              ∙ (take-append-le live.front stay.moves.items grows.rest long ∙ same)
+              let sizes : length (take live.held_count stay.moves.items) ≡ length (take live.held_count found) = ap
+              length same in
+              let stays = length-take live.held_count stay.moves.items in
+              let finds = length-take live.held_count found in
+              let long : live.held_count ≤ length stay.moves.items = omega (arith, sizes, stays, finds, below, past) in
+              ap (take live.held_count) grows.moves
+              ∙ (take-append-le live.held_count stay.moves.items grows.rest long ∙ same)
         ];
       }
 
@@ -347,24 +348,24 @@ module _ (space : SpaceWords) (s : State) (live : LiveSet) (seen : IsSeen space 
         subst (λ (b : ℕ). Reached s b × (Leaves Move s b → ⊥)) m.3
         ((chosen.tracks.holds.whole m.0 m.1 m.2).reached, (chosen.stays m.0 m.1 m.2).1)
 
-    first_ones : take live.front stay.moves.items ≡ take live.front live.forwarding.moves.items
-    first_ones = elim (cases_lt count live.front) [
+    first_ones : take live.held_count stay.moves.items ≡ take live.held_count live.forwarding.moves.items
+    first_ones = elim (cases_lt count live.held_count) [
       | inl short ↦
           let found = live.forwarding.moves.items in
-          ap (take live.front) (chosen.all_held (omega (arith, short)) ∙ take_all count found whole)
+          ap (take live.held_count) (chosen.all_held (omega (arith, short)) ∙ take_all count found whole)
       | inr long ↦ chosen.first long
     ]
 
-    are_held : AreHeld s stay.moves.items live.front
+    are_held : AreHeld s stay.moves.items live.held_count
     are_held = record {
-      each = λ k m at before. is.held.each k m (slice_get-take live.forwarding.moves.items live.front k m
+      each = λ k m at before. is.held.each k m (slice_get-take live.forwarding.moves.items live.held_count k m
           (ap (λ (ms : List Relocation). slice_get ms k) (sym first_ones)
-          ∙ slice_get_in_front stay.moves.items live.front k m before at)).1 before;
+          ∙ slice_get_in_front stay.moves.items live.held_count k m before at)).1 before;
       all = λ t r full.
           let m = is.held.all t r full in
-          let there = slice_get-take stay.moves.items live.front m.0 m.1
+          let there = slice_get-take stay.moves.items live.held_count m.0 m.1
           (ap (λ (ms : List Relocation). slice_get ms m.0) first_ones
-          ∙ slice_get_in_front live.forwarding.moves.items live.front m.0 m.1 m.3 m.2) in
+          ∙ slice_get_in_front live.forwarding.moves.items live.held_count m.0 m.1 m.3 m.2) in
           (m.0, m.1, there.1, m.3, m.4);
     }
 

@@ -58,7 +58,7 @@ module _ (maps : Maps) (disk : OnDisk) (old new : Heap) (held after : List Regis
 
     names : MovesNames maps out.after (to_by decision)
     names =
-        let carried = carried_names Move maps s t (to_by decision) decision.choice.stay.moves.items decision.front
+        let carried = carried_names Move maps s t (to_by decision) decision.choice.stay.moves.items decision.held_count
         (move_carries maps s t out.live decision formed out.is) in
         record {
           names = λ a some. out.addresses (to_by decision a) ∙ carried.names a some;
@@ -67,7 +67,7 @@ module _ (maps : Maps) (disk : OnDisk) (old new : Heap) (held after : List Regis
 
     taken : (at : ℕ) → 1 ≤ at → at < t.free → Taken out.after t at
     taken at first below =
-        let is = word_taken Move maps s t (to_by decision) decision.choice.stay.moves.items decision.front
+        let is = word_taken Move maps s t (to_by decision) decision.choice.stay.moves.items decision.held_count
         (move_carries maps s t out.live decision formed out.is) formed at first below in
         record {
           address = is.address;
@@ -105,7 +105,7 @@ module _ (maps : Maps) (disk : OnDisk) (old new : Heap) (held after : List Regis
         let moves = decision.choice.stay.moves.items in
         let carries = move_carries maps s t out.live decision formed out.is in
         let words : journal.live ≡ words_in moves =
-        (let free = out.is.free in let behind = decided.choice.stay.behind in omega (arith, live, free, behind)) in
+        (let free = out.is.free in let beyond = decided.choice.stay.after in omega (arith, live, free, beyond)) in
         record {
           after = out.after;
           later = disk_after disk decision end out.image;
@@ -120,10 +120,10 @@ module _ (maps : Maps) (disk : OnDisk) (old new : Heap) (held after : List Regis
               subst (CountsWords t (IsNamed out.after)) (sym words)
               (same_count t (IsNamed (maps_after maps moves)) (IsNamed out.after) (words_in moves) named_there
               named_before
-              (live_words Move maps s t (to_by decision) moves decision.front carries formed));
+              (live_words Move maps s t (to_by decision) moves decision.held_count carries formed));
           held_words =
               subst (CountsWords s (HeldAt s)) (sym (held_is ∙ decided.held_words))
-              (held_words Move maps s t (to_by decision) moves decision.front carries);
+              (held_words Move maps s t (to_by decision) moves decision.held_count carries);
           bodies =
               subst (Counts (Leaves Move s)) (sym bodies)
               (bodies_counted s decision.choice.leaving.items decided.choice.leave);

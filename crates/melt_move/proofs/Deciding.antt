@@ -79,11 +79,11 @@ pub is_decision : {maps : Maps} (heap : Heap) (held : List Registers) (disk : On
     → IsLiveSet (state_of heap held disk) live → IsChoice (state_of heap held disk) live choice
     → GivesNew (state_of heap held disk) homes → homes.first ≡ disk.end
     → IsDecision heap.space (state_of heap held disk)
-    (record { choice = choice; homes = homes; front = live.front; held_words = live.held_words })
+    (record { choice = choice; homes = homes; held_count = live.held_count; held_words = live.held_words })
 is_decision {maps} heap held disk {live} {choice} {homes} settled formed is chosen gives first = record {
   seen = seen_live heap held disk live is;
   live = live;
-  front = refl;
+  held_count = refl;
   held_words = is.held_words ∙ ap words_in (sym chosen.first);
   choice = chosen;
   homes = gives;

@@ -57,9 +57,9 @@ one_more P words n v below before here =
     subst (P i) (sym (get_or-set_other words n i v 0 other)) (before i lower))
     (subst (P n) (sym (get_or-set_same words n v 0 below)) here)
 
--- and those behind it are as before
+-- and those after it are as before
 pub rest_stays : (words : List ℕ) (n v i : ℕ) → n + 1 ≤ i → slice_index (slice_set words n v) i ≡ slice_index words i
-rest_stays words n v i behind = let other : i ≢ n = omega (arith, behind) in get_or-set_other words n i v 0 other
+rest_stays words n v i after = let other : i ≢ n = omega (arith, after) in get_or-set_other words n i v 0 other
 
 -- these words are those of an object that leaves without its header and its home word
 pub record IsCut (space : SpaceWords) (d : Departure) (object slots : List ℕ) : Type 0 where

@@ -1,4 +1,4 @@
--- New homes, given one behind the other.
+-- New homes, given one after the other.
 use Rattle.std.proofs.Common.{◌≡◌, ◌≢◌, ◌⊎◌, inl, inr, ℕ, ◌+◌, ◌<◌, ◌^◌, List, [], ◌∷◌, ◌++◌, length, take}
 use Rattle.std.proofs.Common.{set, replicate, refl, sym, ap, subst, ◌∙◌, arith, get_or-set_same, get_or-set_other}
 use Rattle.std.specs.Prelude.{Bool, slice_get, slice_index, Some}

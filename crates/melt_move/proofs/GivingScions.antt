@@ -39,7 +39,7 @@ module _ (homes : NewHomes) (moves : List Relocation) (end : ℕ) (old : Heap)
   other_place i j x y first second other same = elim (cases_order i j) [
     | inl one ↦ other one
     | inr (inl before) ↦ (let far = await.apart i j x y first second before in omega (arith, far, same))
-    | inr (inr behind) ↦ (let far = await.apart j i y x second first behind in omega (arith, far, same))
+    | inr (inr after) ↦ (let far = await.apart j i y x second first after in omega (arith, far, same))
   ]
 
   -- a home word before the first turn
@@ -59,7 +59,7 @@ module _ (homes : NewHomes) (moves : List Relocation) (end : ℕ) (old : Heap)
       live = λ k m home scion at names. record {
         address = m.from;
         is = named_before k m home scion at names;
-        told = λ below. absurd (omega (arith, below));
+        moved = λ below. absurd (omega (arith, below));
       };
       own = λ i j m n home other scion first second a b.
           let both : Some (home, m.from) ≡ Some (other, n.from) =
@@ -73,7 +73,7 @@ module _ (homes : NewHomes) (moves : List Relocation) (end : ℕ) (old : Heap)
             move = is.1;
             is = is.2;
             names = is.4;
-            told = λ below. absurd (omega (arith, below));
+            moved = λ below. absurd (omega (arith, below));
           };
       words = λ at free. refl;
     };
@@ -212,7 +212,7 @@ module _ (homes : NewHomes) (moves : List Relocation) (end : ℕ) (old : Heap)
             record {
               scion = given.0;
               names = given.1;
-              live = is.is ∙ ap (λ (a : ℕ). Some (given_home homes m, a)) (is.told (below k m at));
+              live = is.is ∙ ap (λ (a : ℕ). Some (given_home homes m, a)) (is.moved (below k m at));
             };
         old_homes = λ k m home scion at names.
             let same : word_at new.space (m.to + 1) ≡ word_at old.space (m.to + 1) =
@@ -225,10 +225,10 @@ module _ (homes : NewHomes) (moves : List Relocation) (end : ℕ) (old : Heap)
             ]) in
             let is = first.scions.live k m home scion at
             (same_name (word_at old.space) (word_at new.space) m.to home scion same names) in
-            is.is ∙ ap (λ (a : ℕ). Some (home, a)) (is.told (below k m at));
+            is.is ∙ ap (λ (a : ℕ). Some (home, a)) (is.moved (below k m at));
         only = λ scion pair live.
             let is = first.scions.only scion pair live in
-            (is.index, is.move, is.is, is.told (below is.index is.move is.is), is.names);
+            (is.index, is.move, is.is, is.moved (below is.index is.move is.is), is.names);
         words = λ at free. first.scions.words at (λ k m before. free k m);
         space_size = first.space_size;
         used = first.used;

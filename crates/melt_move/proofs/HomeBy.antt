@@ -10,7 +10,7 @@ use Rattle.melt_scion.specs.State.{State, HeaderAt, Reached}
 use Rattle.melt_scion.proofs.Geometry.{one_header}
 use Rattle.melt_move.specs.declared.decision.Decision.{Decision}
 use Rattle.melt_move.specs.Plans.{need_for, new_home, home_by, WantsHome, IsDecision, HasRoom}
-use Rattle.melt_move.proofs.HomesBy.{new_behind, wants_given, given_within, home-cases}
+use Rattle.melt_move.proofs.HomesBy.{new_after, wants_given, given_within, home-cases}
 use Rattle.melt_move.proofs.Needs.{need-front}
 
 -- a new home lies on the disk, if there is one
@@ -29,7 +29,7 @@ new_home_small space s decision address decided room =
           ap (slice_index decision.homes.offsets.items) (sym is.3) ∙ decided.homes.offset is.0 is.1 is.2 in
           omega (
             arith,
-            new_behind decision.homes.first before offset same,
+            new_after decision.homes.first before offset same,
             need-front decision.homes.given.items is.0 is.1 is.2,
             room,
           )
@@ -48,7 +48,7 @@ home_decodes space s decision address decided reached =
       )
     ]
 
--- The home of an object that has one when the collection is over: it lies behind word 0 and before the end of all
+-- The home of an object that has one when the collection is over: it lies after word 0 and before the end of all
 -- homes.
 pub record HomeLies (s : State) (decision : Decision) (address home : ℕ) : Type 0 where
   pub first : 1 ≤ home

@@ -24,10 +24,10 @@ home-none s decision a none =
     ap (λ (word : ℕ). home_or (home_part word) (new_home decision.homes.first
     (slice_index decision.homes.offsets.items a))) none
 
--- the home behind so many words
-pub new_behind : (first before offset : ℕ) → offset ≡ 1 + before → new_home first offset ≡ first + before
-new_behind first before zero is = absurd (omega (arith, is))
-new_behind first before (suc x) is = let same : x ≡ before = omega (arith, is) in ap (λ (n : ℕ). first + n) same
+-- the home after so many words
+pub new_after : (first before offset : ℕ) → offset ≡ 1 + before → new_home first offset ≡ first + before
+new_after first before zero is = absurd (omega (arith, is))
+new_after first before (suc x) is = let same : x ≡ before = omega (arith, is) in ap (λ (n : ℕ). first + n) same
 
 -- one that had a home keeps it
 pub home-old : (s : State) (decision : Decision) (a home scion : ℕ) → OldHome s a home scion
@@ -50,7 +50,7 @@ module _ (s : State) (decision : Decision) (gives : GivesNew s decision.homes) (
   pub home-given : (k : ℕ) (g : Given) → slice_get decision.homes.given.items k ≡ Some g
       → home_by s.word decision g.from ≡ decision.homes.first + need_for (take k decision.homes.given.items)
   home-given k g at = home-none s decision g.from (gives.each k g at).0.had_none
-      ∙ new_behind decision.homes.first _ _ (gives.offset k g at)
+      ∙ new_after decision.homes.first _ _ (gives.offset k g at)
 
   new_some : (offset : ℕ) → new_home decision.homes.first offset ≢ 0 → offset ≢ 0
   new_some zero some = absurd (some refl)
@@ -82,7 +82,7 @@ module _ (s : State) (decision : Decision) (gives : GivesNew s decision.homes) (
   pub wants_some : (a : ℕ) → WantsHome s a → home_by s.word decision a ≢ 0
   wants_some a wants = given_some a (wants_given a wants)
 
-  -- a new home lies behind all from before, and before the end
+  -- a new home lies after all from before, and before the end
   pub given_within : (k : ℕ) (g : Given) → slice_get decision.homes.given.items k ≡ Some g
       → (decision.homes.first ≤ home_by s.word decision g.from)
       × (home_by s.word decision g.from + cost_of g.shape

@@ -49,7 +49,7 @@ object_sources space s decision m object are of =
           (object_slot s m.shape.refs m.shape.nums i seen.word are (within i below)) refers);
     }
 
--- an object whose words were put behind those that were there
+-- an object whose words were put after those that were there
 pub object_stays : (held : Bool) {space : SpaceWords} {s : State} {decision : Decision} {m : Relocation}
     {object : List ℕ} (out : List ℕ) {first then_ last : List ℕ} {before : ℕ} (header : ℕ) {home : ℕ}
     → AreWords space m.from (cost_of m.shape) object → Stays space s decision m → m.to ≡ length out + 1
@@ -107,7 +107,7 @@ object_stays held {s} {decision} {m} {object} out {first} {then_} {last} {before
           ∙ ap s.word (let sum : m.from + (2 + refs + j) ≡ m.from + 2 + refs + j = omega arith in sum))))));
     }
 
--- an object that was put there stands where more words are put behind it
+-- an object that was put there stands where more words are put after it
 stands_on : {s : State} {decision : Decision} {held : Bool} {words more : List ℕ} {n : ℕ} {m : Relocation}
     → Extends words more n → m.to + cost_of m.shape ≤ length words + 1
     → ObjectStays s decision held (word_numbered words) m → ObjectStays s decision held (word_numbered more) m
@@ -126,13 +126,13 @@ stands_on {s} {decision} {words} {more} {n} {m} extends within object = record {
 pub record StandSoFar (s : State) (decision : Decision) (words : List ℕ) (count : ℕ) : Type 0 where
   pub size : length words ≡ words_in (take count decision.choice.stay.moves.items)
   pub objects : (k : ℕ) (m : Relocation) → k < count → slice_get decision.choice.stay.moves.items k ≡ Some m
-      → ObjectStays s decision (nat_lt k decision.front) (word_numbered words) m
+      → ObjectStays s decision (nat_lt k decision.held_count) (word_numbered words) m
 
 -- one object more
 pub stand_more : {space : SpaceWords} {s : State} {decision : Decision} {words more : List ℕ} {count : ℕ}
     {m : Relocation} → Stays space s decision m → StandSoFar s decision words count
     → slice_get decision.choice.stay.moves.items count ≡ Some m → Extends words more (cost_of m.shape)
-    → (m.to ≡ length words + 1 → ObjectStays s decision (nat_lt count decision.front) (word_numbered more) m)
+    → (m.to ≡ length words + 1 → ObjectStays s decision (nat_lt count decision.held_count) (word_numbered more) m)
     → StandSoFar s decision more (count + 1)
 stand_more {s} {decision} {more} {count} {m} stays before at extends object =
     let moves : List Relocation = decision.choice.stay.moves.items in
@@ -142,8 +142,8 @@ stand_more {s} {decision} {more} {count} {m} stays before at extends object =
       objects = λ k x under there. elim (eqb_tells k count) [
         | inl same ↦
             let one : x ≡ m = same_Some x m (sym there ∙ (ap (slice_get moves) same.1 ∙ at)) in
-            subst (λ (i : ℕ). ObjectStays s decision (nat_lt i decision.front) (word_numbered more) x) (sym same.1)
-            (subst (ObjectStays s decision (nat_lt count decision.front) (word_numbered more)) (sym one)
+            subst (λ (i : ℕ). ObjectStays s decision (nat_lt i decision.held_count) (word_numbered more) x) (sym same.1)
+            (subst (ObjectStays s decision (nat_lt count decision.held_count) (word_numbered more)) (sym one)
             (object (let place = stay.places count m at in omega (arith, place, before.size))))
         | inr other ↦
             let lower : k < count = omega (arith, under, other.1) in
@@ -175,7 +175,7 @@ pub stays_in : (space : SpaceWords) (s : State) (decision : Decision) (k : ℕ) 
 stays_in space s decision k m decided room at =
     record { decided = decided; room = room; move = decided.choice.stay.whole k m at }
 
--- the next object fits behind those that stand there
+-- the next object fits after those that stand there
 pub next_stays_in : (space : SpaceWords) (s : State) (decision : Decision) (k : ℕ) (m : Relocation)
     → IsDecision space s decision → slice_get decision.choice.stay.moves.items k ≡ Some m
     → words_in (take k decision.choice.stay.moves.items) + cost_of m.shape ≤ space.used

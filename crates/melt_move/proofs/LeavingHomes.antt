@@ -85,10 +85,10 @@ module _ (maps : Maps) (s t : State) (live : LiveSet) (decision : Decision) (for
   old_within a z old = (reserved_within s.base.homes s.base.end tells.homes_follow (home a) z old.reserved).1
 
   -- and a new one does not
-  new_behind : (a : ℕ) (z : Shape) → IsAtNewHome s decision a z → s.base.end ≤ home a
-  new_behind a z new =
-      let behind = (given_within s decision is.gives from_one new.given.index new.given.given new.given.is).0 in
-      omega (arith, behind, is.first, ap home new.given.from)
+  new_after : (a : ℕ) (z : Shape) → IsAtNewHome s decision a z → s.base.end ≤ home a
+  new_after a z new =
+      let after = (given_within s decision is.gives from_one new.given.index new.given.given new.given.is).0 in
+      omega (arith, after, is.first, ap home new.given.from)
 
   -- of two new homes the first ends before the other
   new_order : (a b : ℕ) (z y : Shape) (one : IsAtNewHome s decision a z) (other : IsAtNewHome s decision b y)
@@ -112,9 +112,9 @@ module _ (maps : Maps) (s t : State) (live : LiveSet) (decision : Decision) (for
         | inr apart ↦ apart
       ]
   places_apart a b z y differ (inl old) (inr new) =
-      inl (omega (arith, old_within a z old, new_behind b y new))
+      inl (omega (arith, old_within a z old, new_after b y new))
   places_apart a b z y differ (inr new) (inl old) =
-      inr (omega (arith, old_within b y old, new_behind a z new))
+      inr (omega (arith, old_within b y old, new_after a z new))
   places_apart a b z y differ (inr one) (inr other) = elim (cases_order one.given.index other.given.index) [
     | inl same ↦
         let given : one.given.given ≡ other.given.given =
@@ -142,5 +142,5 @@ module _ (maps : Maps) (s t : State) (live : LiveSet) (decision : Decision) (for
         (λ same. differ (sym same)) below
     | inr new ↦
         let within = (reserved_within s.base.homes s.base.end tells.homes_follow k z reserved).1 in
-        inl (omega (arith, within, below, new_behind d.from d.shape new))
+        inl (omega (arith, within, below, new_after d.from d.shape new))
   ]

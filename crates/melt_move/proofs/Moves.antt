@@ -46,13 +46,14 @@ module _ (maps : Maps) (s t : State) (live : LiveSet) (decision : Decision) (for
   some_first = let first = is.first in let some = is.first_end in omega (arith, first, some)
 
   -- what stays was carried
-  pub move_carries : Carries Move s t (to_by decision) decision.choice.stay.moves.items decision.front
+  pub move_carries : Carries Move s t (to_by decision) decision.choice.stay.moves.items decision.held_count
   move_carries = record {
     whole = is.whole;
     found = subst (λ (free : ℕ). Relocates s (to_by decision) decision.choice.stay.moves.items free) (sym is.free)
         is.choice.stay;
     header = λ k m header at starts. (is.objects k m at).header header starts;
-    held = subst (λ (front : ℕ). AreHeld s decision.choice.stay.moves.items front) (sym is.front) is.choice.held;
+    held = subst (λ (held_count : ℕ). AreHeld s decision.choice.stay.moves.items held_count) (sym is.held_count)
+        is.choice.held;
     size = is.size;
   }
 
@@ -143,17 +144,17 @@ module _ (maps : Maps) (s t : State) (live : LiveSet) (decision : Decision) (for
   arrives : (a : ℕ) (header : Header) → to_by decision a ≢ 0 → HeaderAt s a header
       → Arrives Move s t (to_by decision) (home_by s.word decision) (scion_by t decision) a header
   arrives a header some starts =
-      let x = found_at Move maps s t (to_by decision) moves decision.front move_carries a header some starts in
+      let x = found_at Move maps s t (to_by decision) moves decision.held_count move_carries a header some starts in
       let object = is.objects x.index x.move x.is in
       let refs : header.shape.refs ≡ x.move.shape.refs = ap (λ (z : Shape). z.refs) x.shape in
       let nums : header.shape.nums ≡ x.move.shape.nums = ap (λ (z : Shape). z.nums) x.shape in
       let Becomes : ℕ → ℕ → Type 0 = WordBecomes (moved_ref Move (to_by decision) (home_by s.word decision)) in
       record {
-        later = header_after Move (nat_lt x.index decision.front) header;
+        later = header_after Move (nat_lt x.index decision.held_count) header;
         starts = x.there;
         shape = refl;
-        marked = marked Move maps s t (to_by decision) moves decision.front move_carries formed a header x starts;
-        below = place_within Move maps s t (to_by decision) moves decision.front move_carries a header some starts;
+        marked = marked Move maps s t (to_by decision) moves decision.held_count move_carries formed a header x starts;
+        below = place_within Move maps s t (to_by decision) moves decision.held_count move_carries a header some starts;
         no_home = homeless a some;
         at_home = λ one. let h = homed a some one in
             h.names.is ∙ ap (λ (k : ℕ). home_word (Some (record { home = home_by s.word decision a; scion = k })))
@@ -226,7 +227,7 @@ module _ (maps : Maps) (s t : State) (live : LiveSet) (decision : Decision) (for
       let first = is.first in
       let end = is.end in
       record {
-        behind = omega (arith, within.0, same, first);
+        after = omega (arith, within.0, same, first);
         within = omega (arith, within.1, same, first, cost, end);
         reserved =
             subst (λ (hs : List Home). IsReserved hs (home a) header.shape) (sym is.homes)
@@ -276,9 +277,9 @@ module _ (maps : Maps) (s t : State) (live : LiveSet) (decision : Decision) (for
     homes = gives_homes;
     size = is.size;
     globals = is.globals;
-    free = free_within Move maps s t (to_by decision) moves decision.front move_carries;
+    free = free_within Move maps s t (to_by decision) moves decision.held_count move_carries;
     arrives = arrives;
-    order = in_order Move maps s t (to_by decision) moves decision.front move_carries;
+    order = in_order Move maps s t (to_by decision) moves decision.held_count move_carries;
     global = is.global;
     register = is.register;
     scions = takes_scion;

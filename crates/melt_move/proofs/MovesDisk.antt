@@ -57,7 +57,7 @@ module _ (maps : Maps) (s t : State) (live : LiveSet) (decision : Decision) (for
         has_one = wants_some s decision is.gives from_one g.from wants;
       }
 
-  -- its home begins behind the homes before it
+  -- its home begins after the homes before it
   given_begins : (k : ℕ) (g : Given) → slice_get decision.homes.given.items k ≡ Some g
       → home g.from ≡ home_at decision.homes k
   given_begins = home-given s decision is.gives from_one

@@ -121,9 +121,9 @@ hit : (home q n : ℕ) (o : Option ℕ) (pairs : List (ℕ × ℕ)) → home ≡
 hit home q n None pairs same is = absurd (cc)
 hit home q n (Some m) pairs same is = cond-true (eqb home q) (Some m) (named pairs q) (eq-eqb home q same) ∙ is
 
-behind : (home cost : ℕ) (g : Given) (given : List Given) (k : ℕ) → cost ≡ cost_of g.shape
+offset_after : (home cost : ℕ) (g : Given) (given : List Given) (k : ℕ) → cost ≡ cost_of g.shape
     → home + cost + need_for (take k given) ≡ home + need_for (take (suc k) (g ∷ given))
-behind home cost g given k is = omega (arith, is, need-cons g (take k given))
+offset_after home cost g given k is = omega (arith, is, need-cons g (take k given))
 
 pairs_each : (addresses : List (ℕ × ℕ)) (home : ℕ) (given : List Given) (pairs : List (ℕ × ℕ)) (k : ℕ) {n : ℕ}
     {g : Given} → slice_get given k ≡ Some g → named addresses g.from ≡ Some n
@@ -136,7 +136,7 @@ pairs_each addresses home (x ∷ given) pairs zero {n} {g} at is =
     (ap (λ (y : Given). named addresses y.from) one ∙ is)
 pairs_each addresses home (x ∷ given) pairs (suc k) {n} {g} at is =
     let q : ℕ = home + need_for (take (suc k) (x ∷ given)) in
-    let next = behind home (cost_of x.shape) x given k refl in
+    let next = offset_after home (cost_of x.shape) x given k refl in
     let rest : List (ℕ × ℕ) = given_pairs addresses (home + cost_of x.shape) given pairs in
     passed home q (named addresses x.from) rest (omega (arith, need-cons x (take k given)))
     ∙ (ap (named rest) (sym next) ∙ pairs_each addresses (home + cost_of x.shape) given pairs k at is)
@@ -149,7 +149,7 @@ pairs_others addresses home (x ∷ given) pairs q free =
     let rest : List (ℕ × ℕ) = given_pairs addresses (home + cost_of x.shape) given pairs in
     passed home q (named addresses x.from) rest (λ same. free 0 x refl (omega (arith, same)))
     ∙ pairs_others addresses (home + cost_of x.shape) given pairs q
-    (λ k g at same. free (suc k) g at (same ∙ behind home (cost_of x.shape) x given k refl))
+    (λ k g at same. free (suc k) g at (same ∙ offset_after home (cost_of x.shape) x given k refl))
 
 -- the pairs name each new home, and no other anew
 pub pairs_given : (old : NamePairs) (homes : NewHomes)

@@ -133,10 +133,10 @@ record Picks (words : List ℕ) : Type 0 where
   pub is_filled : (i : ℕ) → i < filled words → slice_index words (pick i) ≢ 0
   pub order : (i j : ℕ) → i < j → j < filled words → pick i < pick j
 
--- a place in front, and behind it others
-behind_first : (ℕ → ℕ) → ℕ → ℕ
-behind_first pick zero = 0
-behind_first pick (suc i) = suc (pick i)
+-- a place in front, and after it others
+after_first : (ℕ → ℕ) → ℕ → ℕ
+after_first pick zero = 0
+after_first pick (suc i) = suc (pick i)
 
 abbrev counts_one : ℕ → ℕ
 counts_one word = cond (nat_lt 0 word) 1 0
@@ -147,19 +147,19 @@ module _ (word : ℕ) (words : List ℕ) (some : word ≢ 0) (rest : Picks words
       let test : nat_lt 0 word ≡ true = grind (arith, nat_tests) in
       sum_by-cons counts_one word words ∙ ap (λ b. cond b 1 0 + filled words) test
 
-  within_more : (i : ℕ) → i < filled (word ∷ words) → behind_first rest.pick i < length (word ∷ words)
-  unfolding behind_first
+  within_more : (i : ℕ) → i < filled (word ∷ words) → after_first rest.pick i < length (word ∷ words)
+  unfolding after_first
   within_more zero below = omega arith
   within_more (suc i) below =
       let more = rest.within i (omega (arith, below, count_more)) in omega (arith, more)
 
-  filled_more : (i : ℕ) → i < filled (word ∷ words) → slice_index (word ∷ words) (behind_first rest.pick i) ≢ 0
-  unfolding behind_first
+  filled_more : (i : ℕ) → i < filled (word ∷ words) → slice_index (word ∷ words) (after_first rest.pick i) ≢ 0
+  unfolding after_first
   filled_more zero below = some
   filled_more (suc i) below = rest.is_filled i (omega (arith, below, count_more))
 
-  order_more : (i j : ℕ) → i < j → j < filled (word ∷ words) → behind_first rest.pick i < behind_first rest.pick j
-  unfolding behind_first
+  order_more : (i j : ℕ) → i < j → j < filled (word ∷ words) → after_first rest.pick i < after_first rest.pick j
+  unfolding after_first
   order_more i zero less below = omega (arith, less)
   order_more zero (suc j) less below = omega arith
   order_more (suc i) (suc j) less below =
@@ -167,7 +167,7 @@ module _ (word : ℕ) (words : List ℕ) (some : word ≢ 0) (rest : Picks words
 
   picks_more : Picks (word ∷ words)
   picks_more = record {
-    pick = behind_first rest.pick;
+    pick = after_first rest.pick;
     within = within_more;
     is_filled = filled_more;
     order = order_more;
@@ -259,10 +259,10 @@ module _ (maps : Maps) (heap : Heap) (held : List Registers) (disk : OnDisk)
         formed.apart one.address other.address one.stands.named.0 other.stands.named.0 one.header one.stands.named.1
         other.stands.named.1 one.object.starts before in
         inl (omega (arith, far))
-    | inr (inr behind) ↦
+    | inr (inr beyond) ↦
         let far : other.address + cost_of other.header.shape ≤ one.address =
         formed.apart other.address one.address other.stands.named.0 one.stands.named.0 other.header
-        other.stands.named.1 one.stands.named.1 other.object.starts behind in
+        other.stands.named.1 one.stands.named.1 other.object.starts beyond in
         inr (omega (arith, far))
   ]
 
@@ -328,7 +328,7 @@ formed_moved {old} {new} {held} {after} {end_after} {told} {told_after} {journal
       formed = has.collected.formed;
     }
 
--- what stands behind a refusal of the collection of a settled heap
+-- what stands after a refusal of the collection of a settled heap
 pub refused_settled : {Disk : Type 0} → {image : Disk → Option (List ℕ)} → {writes : Disk → ℕ} → {phase : Phase}
     → {old : Heap} → {held after : List Registers} → {disk disk_after : Stale Disk} → (refusal : MoveRefusal)
     → IsRefusedSettled image writes phase old held after disk disk_after refusal

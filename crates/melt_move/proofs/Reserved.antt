@@ -13,7 +13,7 @@ use Rattle.melt_move.specs.Plans.{need_for}
 use Rattle.melt_move.specs.Moved.{homes_from}
 use Rattle.melt_move.proofs.Needs.{need-cons}
 
--- each home stands behind those before it
+-- each home stands after those before it
 pub home_from : (from k : ℕ) (given : List Given) (g : Given) → slice_get given k ≡ Some g
     → slice_get (homes_from from given) k ≡ Some (record { at = from + need_for (take k given); shape = g.shape })
 home_from from k [] g at = absurd (cc)
@@ -26,7 +26,7 @@ home_from from (suc k) (x ∷ given) g at =
     ∙ ap (λ (n : ℕ). let h : Home = record { at = n; shape = g.shape } in Some h)
     (let more = need-cons x (take k given) in omega (arith, more))
 
--- what stands behind others in a list
+-- what stands after others in a list
 get_right : (xs ys : List Home) (i : ℕ) → slice_get (xs ++ ys) (length xs + i) ≡ slice_get ys i
 get_right [] ys i = ap (slice_get ys) (omega arith)
 get_right (x ∷ xs) ys i =
@@ -92,7 +92,7 @@ given_there from zero h (x ∷ given) at =
 given_there from (suc k) h (x ∷ given) at =
     begins_later from h.at x given (given_there (from + cost_of x.shape) k h given at)
 
--- homes behind others follow them
+-- homes after others follow them
 follow_append : (from middle end : ℕ) (homes more : List Home) → Follow from homes middle → Follow middle more end
     → Follow from (homes ++ more) end
 follow_append from middle end [] more first rest = subst (λ (at : ℕ). Follow at more end) (sym first) rest
@@ -116,9 +116,9 @@ get_either (y ∷ xs) ys (suc k) x at = get_either xs ys k x at
 module _ (old new : List Home) (end : ℕ) (given : List Given) (is : new ≡ old ++ homes_from end given) where
   -- all homes follow each other
   pub reserved_follow : (last : ℕ) → end + need_for given ≡ last → Follow 1 old end → Follow 1 new last
-  reserved_follow last behind follows =
+  reserved_follow last after follows =
       subst (λ (homes : List Home). Follow 1 homes last) (sym is)
-      (follow_append 1 end last old (homes_from end given) follows (follow_given end last given behind))
+      (follow_append 1 end last old (homes_from end given) follows (follow_given end last given after))
 
   -- those from before are reserved
   pub reserved_old : (home : ℕ) (z : Shape) → IsReserved old home z → IsReserved new home z

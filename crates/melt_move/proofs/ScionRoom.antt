@@ -14,7 +14,7 @@ use Rattle.melt_move.specs.GivenScions.{NamesScion}
 use Rattle.melt_move.proofs.Freeing.{named_not_none, one_name}
 use Rattle.melt_move.proofs.Turns.{IsOwner}
 
--- the objects lie in so many words, one behind the other
+-- the objects lie in so many words, one after the other
 pub record LieApart (size : ℕ) (moves : List Relocation) : Type 0 where
   pub placed : (k : ℕ) (m : Relocation) → slice_get moves k ≡ Some m
       → (1 ≤ m.to) × (m.to + cost_of m.shape ≤ size + 1)
@@ -63,7 +63,7 @@ module _ (size : ℕ) (moves : List Relocation) (count : ℕ) (word : ℕ → �
       let own = only scion pair is in
       (record { index = own.index; move = own.move; home = pair.0; is = own.is; names = own.names }, refl)
 
-  -- this object, and behind it those of the live scions
+  -- this object, and after it those of the live scions
   place : ℕ → ℕ
   place zero = m.to
   place (suc i) =
@@ -140,7 +140,7 @@ module _ (size : ℕ) (moves : List Relocation) (count : ℕ) (word : ℕ → �
         | inr (inl before) ↦
             let far = lie.apart p.index q.index p.move q.move p.is q.is before in
             inl (omega (arith, far, p.to, q.to))
-        | inr (inr behind) ↦
-            let far = lie.apart q.index p.index q.move p.move q.is p.is behind in
+        | inr (inr after) ↦
+            let far = lie.apart q.index p.index q.move p.move q.is p.is after in
             inr (omega (arith, far, p.to, q.to))
       ])

@@ -29,7 +29,7 @@ put_puts old at words = record {
       grind (arith, nat_tests);
   others = λ k apart. elim apart [
     | inl before ↦ grind (arith, nat_tests)
-    | inr behind ↦ grind (arith, nat_tests)
+    | inr later ↦ grind (arith, nat_tests)
   ];
 }
 
@@ -49,7 +49,7 @@ pub record ShowsWrite (told : Option (List ℕ)) (old : ℕ → ℕ) (at : ℕ) 
   pub shows : Shows told after
   pub puts : Puts old at words after
 
--- A write shows: to each image of the words before it there is one of those behind it, with the written words in it.
+-- A write shows: to each image of the words before it there is one of those after it, with the written words in it.
 -- Where the disk tells its words that is the only one; where it tells none, any will do.
 pub write_shows : (old : Option (List ℕ)) (at : ℕ) (words : List ℕ) (new : Option (List ℕ)) (image : ℕ → ℕ)
     → Shows old image → Writes old at words new → ShowsWrite new image at words
@@ -66,7 +66,7 @@ write_shows (Some old) at words (Some new) image shows writes =
         here = λ i below. ap (λ (l : List ℕ). slice_index l (at + i)) writes ∙ words_stand old at words i below;
         others = λ k apart. ap (λ (l : List ℕ). slice_index l k) writes ∙ (elim apart [
           | inl before ↦ outside.before k before ∙ sym (shows k)
-          | inr behind ↦ outside.behind k behind ∙ sym (shows k)
+          | inr later ↦ outside.after k later ∙ sym (shows k)
         ]);
       };
     }

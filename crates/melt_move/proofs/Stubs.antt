@@ -57,7 +57,7 @@ stub_shows told new heap m {home} {scion} end image shows writes is_shape within
             })) same (head_stands home end scion m.shape image w.after is_shape within is_scion w.puts);
         others = λ at outside. w.puts.others at (elim outside [
           | inl before ↦ inl before
-          | inr behind ↦ inr (omega (arith, behind))
+          | inr later ↦ inr (omega (arith, later))
         ]);
       },
     )

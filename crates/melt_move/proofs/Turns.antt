@@ -31,7 +31,7 @@ given_scion old new home address scion table few adds =
 pub record IsLiveFor (scions : Scions) (count k : ℕ) (m : Relocation) (home scion : ℕ) : Type 0 where
   pub address : ℕ
   pub is : scion_at scions scion ≡ Some (home, address)
-  pub told : k < count → address ≡ m.to
+  pub moved : k < count → address ≡ m.to
 
 -- the object of a live scion, whose address is the new one once its turn has come
 pub record IsOwner (moves : List Relocation) (count : ℕ) (word : ℕ → ℕ) (scion : ℕ) (pair : ℕ × ℕ) : Type 0 where
@@ -39,7 +39,7 @@ pub record IsOwner (moves : List Relocation) (count : ℕ) (word : ℕ → ℕ) 
   pub move : Relocation
   pub is : slice_get moves index ≡ Some move
   pub names : NamesScion word move.to pair.0 scion
-  pub told : index < count → pair.1 ≡ move.to
+  pub moved : index < count → pair.1 ≡ move.to
 
 -- What stands once the turns of the first objects, so many of them, have come: their new homes are named, each scion
 -- that is named is live, and each live scion is named by one object.
@@ -97,10 +97,10 @@ module _ (homes : NewHomes) (moves : List Relocation) (count : ℕ) (old word : 
         let is = before.live k x home scion there names in record {
           address = is.address;
           is = is.is;
-          told = λ below. elim (cases_eq k count) [
+          moved = λ below. elim (cases_eq k count) [
             | inl same ↦ absurd (named_not_none word m.to home scion (name_here word k x home scion there same names)
                 none)
-            | inr other ↦ is.told (less k below other)
+            | inr other ↦ is.moved (less k below other)
           ];
         };
     own = before.own;
@@ -110,10 +110,10 @@ module _ (homes : NewHomes) (moves : List Relocation) (count : ℕ) (old word : 
           move = is.move;
           is = is.is;
           names = is.names;
-          told = λ below. elim (cases_eq is.index count) [
+          moved = λ below. elim (cases_eq is.index count) [
             | inl same ↦ absurd (named_not_none word m.to pair.0 scion
                 (name_here word is.index is.move pair.0 scion is.is same is.names) none)
-            | inr other ↦ is.told (less is.index below other)
+            | inr other ↦ is.moved (less is.index below other)
           ];
         };
     words = λ place free. before.words place (λ k x below. free k x (omega (arith, below)));
@@ -140,16 +140,16 @@ module _ (homes : NewHomes) (moves : List Relocation) (count : ℕ) (old word : 
               record {
                 address = m.to;
                 is = ap (scion_at new) same ∙ (now ∙ ap (λ (i : ℕ). Some (i, m.to)) (sym mine.0));
-                told = λ below. ap (λ (y : Relocation). y.to) (sym (here k x there one));
+                moved = λ below. ap (λ (y : Relocation). y.to) (sym (here k x there one));
               }
           | inr other ↦
               let is = before.live k x h n there named in record {
                 address = is.address;
                 is = sets.others n other ∙ is.is;
-                told = λ below. elim (cases_eq k count) [
+                moved = λ below. elim (cases_eq k count) [
                   | inl same ↦ absurd (other (one_name word m.to h n home scion
                       (name_here word k x h n there same named) names).1)
-                  | inr apart ↦ is.told (less k below apart)
+                  | inr apart ↦ is.moved (less k below apart)
                 ];
               }
         ];
@@ -163,7 +163,7 @@ module _ (homes : NewHomes) (moves : List Relocation) (count : ℕ) (old word : 
                 move = m;
                 is = at;
                 names = subst (λ (i : ℕ). NamesScion word m.to home i) (sym same) names;
-                told = λ below. refl;
+                moved = λ below. refl;
               })
           | inr other ↦
               let is = before.only n pair (sym (sets.others n other) ∙ live) in record {
@@ -171,10 +171,10 @@ module _ (homes : NewHomes) (moves : List Relocation) (count : ℕ) (old word : 
                 move = is.move;
                 is = is.is;
                 names = is.names;
-                told = λ below. elim (cases_eq is.index count) [
+                moved = λ below. elim (cases_eq is.index count) [
                   | inl same ↦ absurd (other (one_name word m.to pair.0 n home scion
                       (name_here word is.index is.move pair.0 n is.is same is.names) names).1)
-                  | inr apart ↦ is.told (less is.index below apart)
+                  | inr apart ↦ is.moved (less is.index below apart)
                 ];
               }
         ];
@@ -216,14 +216,14 @@ module _ (homes : NewHomes) (moves : List Relocation) (count : ℕ) (old word : 
               record {
                 address = m.to;
                 is = ap (scion_at new) one.1 ∙ (adds.here ∙ ap (λ (i : ℕ). Some (i, m.to)) (sym one.0));
-                told = λ below. ap (λ (y : Relocation). y.to) (sym (here k x there same));
+                moved = λ below. ap (λ (y : Relocation). y.to) (sym (here k x there same));
               }
           | inr other ↦
               let was = kept k x h n there other named in
               let is = before.live k x h n there was in record {
                 address = is.address;
                 is = adds.others n (fresh k x h n there was) ∙ is.is;
-                told = λ below. is.told (less k below other);
+                moved = λ below. is.moved (less k below other);
               }
         ];
         own = λ i j x y h g n first second a b. elim (cases_eq i count) [
@@ -253,7 +253,7 @@ module _ (homes : NewHomes) (moves : List Relocation) (count : ℕ) (old word : 
                 move = m;
                 is = at;
                 names = subst (λ (i : ℕ). NamesScion after m.to (given_home homes m) i) (sym same) names;
-                told = λ below. refl;
+                moved = λ below. refl;
               })
           | inr other ↦
               let is = before.only n pair (sym (adds.others n other) ∙ live) in
@@ -265,7 +265,7 @@ module _ (homes : NewHomes) (moves : List Relocation) (count : ℕ) (old word : 
                 move = is.move;
                 is = is.is;
                 names = keeps is.index is.move pair.0 n is.is elsewhere is.names;
-                told = λ below. is.told (less is.index below elsewhere);
+                moved = λ below. is.moved (less is.index below elsewhere);
               }
         ];
         words = λ place free.

@@ -73,7 +73,7 @@ leaving_at [] k m at = absurd (cc)
 leaving_at (d ∷ ds) zero m at = (d, refl, same_Some _ m at)
 leaving_at (d ∷ ds) (suc k) m at = leaving_at ds k m at
 
--- the words of those that leave, and of others behind them
+-- the words of those that leave, and of others after them
 words_both : (ds : List Departure) (ms : List Relocation)
     → words_in (as_moves ds ++ ms) ≡ leaving_words ds + words_in ms
 words_both [] ms = omega arith

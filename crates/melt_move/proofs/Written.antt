@@ -1,4 +1,4 @@
--- Bodies that were written one behind the other.
+-- Bodies that were written one after the other.
 use Rattle.std.proofs.Common.{◌≡◌, ℕ, ◌+◌, ◌<◌, ◌≤◌, List, length, refl, sym, subst, ap, ◌∙◌, arith}
 use Rattle.std.proofs.Common.{inl, inr, suc, get_or, Option, Result, Ok, Err, OnOk}
 use Rattle.std.specs.Prelude.{slice_get, slice_index, Some}
@@ -67,8 +67,8 @@ body_stands {space} {s} {decision} {d} {end} {slots} {new} departs is encodes si
     let slot : (i : ℕ) → i < d.shape.refs + d.shape.nums → new (home + 2 + i) ≡ slice_index slots i =
     λ i below.
     let place : home + 2 + i ≡ home + (2 + i) = omega arith in
-    let behind : 2 + i ≡ suc (suc i) = omega arith in
-    let next : slice_index words (2 + i) ≡ slice_index slots i = ap (slice_index words) behind in
+    let later : 2 + i ≡ suc (suc i) = omega arith in
+    let next : slice_index words (2 + i) ≡ slice_index slots i = ap (slice_index words) later in
     ap new place ∙ (puts.here (2 + i) (omega (arith, below, count)) ∙ next) in
     record {
       body = record {
@@ -89,7 +89,7 @@ body_stands {space} {s} {decision} {d} {end} {slots} {new} departs is encodes si
       };
       others = λ at outside. puts.others at (elim outside [
         | inl before ↦ inl before
-        | inr behind ↦ inr (omega (arith, behind, count))
+        | inr later ↦ inr (omega (arith, later, count))
       ]);
     }
 
@@ -167,14 +167,14 @@ bodies_more {s} {home} {end} {leaving} {list} {n} d {mid} {after} is within befo
             body_stays s home end mid after e (before.bodies apart k e lower at)
             (λ word first last. more.others word (elim (apart k n e here at at_n lower) [
               | inl front ↦ inl (omega (arith, last, front))
-              | inr behind ↦ inr (omega (arith, first, behind))
+              | inr later ↦ inr (omega (arith, first, later))
             ]))
       ];
       others = λ word outside. more.others word (outside n here at_n)
           ∙ before.others word outside;
     }
 
--- an image behind one Body more
+-- an image after one Body more
 pub bodies_shown : {s : State} {home : ℕ → ℕ} {end now : ℕ} {leaving list : List Departure} {n : ℕ} (d : Departure)
     (told next : Option (List ℕ)) {image : ℕ → ℕ} → list ≡ leaving → n < length list → now ≡ end
     → (mid : ℕ → ℕ) × Shows told mid × WritesBodies s home end leaving n image mid → ((mid : ℕ → ℕ) → Shows told mid →

@@ -81,7 +81,7 @@ pub record IsPutBack (old new : Heap) (held held_after : List Registers) (decisi
   pub scions : new.scions ≡ old.scions
   pub forward : new.forward ≡ old.forward
 
--- The disk after a collection: the new homes stand behind all others.
+-- The disk after a collection: the new homes stand after all others.
 abbrev pub disk_after : OnDisk → Decision → ℕ → (ℕ → ℕ) → OnDisk
 disk_after disk decision end image = record {
   end = end;
@@ -177,7 +177,7 @@ abbrev pub HasRoomForNames : ℕ → Option Names → Type 0
 HasRoomForNames more None = Unit {0}
 HasRoomForNames more (Some names) = more ≤ names.homes.spare
 
--- What stands behind a refusal. Only a fault of the disk gives the heap up, and then no register holds anything; it is
+-- What stands after a refusal. Only a fault of the disk gives the heap up, and then no register holds anything; it is
 -- a fault in writing what had room.
 abbrev pub IsRefused : {Disk : Type 0} → Heap → List Registers → List Registers → Stale Disk → Stale Disk → MoveRefusal
     → Type 0

@@ -53,7 +53,7 @@ pub record IsOffered (s : State) (address : ℕ) (shape : Shape) : Type 0 where
 abbrev pub offset_at : NewHomes → ℕ → ℕ
 offset_at homes = slice_index homes.offsets.items
 
--- Those that have a new home so far want one, and their homes lie one behind the other.
+-- Those that have a new home so far want one, and their homes lie one after the other.
 pub record HasGiven (space : SpaceWords) (s : State) (giving : Giving) : Type 0 where
   pub seen : IsSeen space s
   pub table : length giving.homes.offsets.items ≡ space.used + 1

@@ -1,4 +1,4 @@
--- A state behind a Move collection, beside the one before it: what was decided was done.
+-- A state after a Move collection, beside the one before it: what was decided was done.
 use Rattle.std.specs.Prelude.{◌≡◌, ◌≢◌, ◌^◌, ℕ, ◌+◌, ◌<◌, ◌≤◌, nat_lt, Bool, List, [], ◌∷◌, ◌++◌, slice_get}
 use Rattle.std.specs.Prelude.{Some}
 use Rattle.melt_model.specs.declared.reports.Phase.TheVariants.{Move}
@@ -19,7 +19,7 @@ use Rattle.melt_move.specs.Staying.{StaysAs}
 use Rattle.melt_move.specs.Bodies.{HasBody, HomesApart, IsOutside}
 use Rattle.melt_move.specs.GivenScions.{NamesScion, given_home}
 
--- homes of these objects, one behind the other from a word on
+-- homes of these objects, one after the other from a word on
 abbrev pub homes_from : ℕ → List Given → List Home
 homes_from from [] = []
 homes_from from (g ∷ given) = record { at = from; shape = g.shape } ∷ homes_from (from + cost_of g.shape) given
@@ -48,7 +48,7 @@ pub record HasNewScion (t : State) (m : Relocation) (home : ℕ) : Type 0 where
 pub record IsMove (s t : State) (live : LiveSet) (decision : Decision) : Type 0 where
   pub whole : IsWhole s
   pub choice : IsChoice s live decision.choice
-  pub front : decision.front ≡ live.front
+  pub held_count : decision.held_count ≡ live.held_count
   pub gives : GivesNew s decision.homes
   pub first : decision.homes.first ≡ s.base.end
   pub first_end : 1 ≤ s.base.end
@@ -57,7 +57,7 @@ pub record IsMove (s t : State) (live : LiveSet) (decision : Decision) : Type 0 
   pub globals : t.base.globals ≡ s.base.globals
   pub free : t.free ≡ decision.choice.stay.next
   pub objects : (k : ℕ) (m : Relocation) → slice_get decision.choice.stay.moves.items k ≡ Some m
-      → StandsAt s t decision (nat_lt k decision.front) m
+      → StandsAt s t decision (nat_lt k decision.held_count) m
   pub kept_home : (k : ℕ) (m : Relocation) → slice_get decision.choice.stay.moves.items k ≡ Some m
       → given_home decision.homes m ≡ 0 → t.word (m.to + 1) ≡ s.word (m.from + 1)
   pub new_home : (k : ℕ) (m : Relocation) → slice_get decision.choice.stay.moves.items k ≡ Some m

@@ -63,7 +63,7 @@ pub record CopyIsRefused {Disk : Type 0} (heap : Heap) (held held_after : List R
   pub end_stays : disk_after.end ≡ disk.end
   pub disk_stays : disk_after.disk.now ≡ disk.disk.now
 
--- what stands behind the refusal of a collection of the phase
+-- what stands after the refusal of a collection of the phase
 abbrev pub IsRefusedIn : {Disk : Type 0} → Phase → Heap → (held held_after : List Registers)
     → (disk disk_after : Stale Disk) → MoveRefusal → Type 0
 IsRefusedIn Inactive = CopyIsRefused
@@ -89,7 +89,7 @@ pub record FailsToSettle (old : Heap) (held_after : List Registers) (writes_befo
   pub stops : StopsAtOne old mid writes_before writes_after
   pub nothing : HoldNothing held_after
 
--- What stands behind a refusal. What hands the heap back hands it back settled. A fault is one in settling, or one of a
+-- What stands after a refusal. What hands the heap back hands it back settled. A fault is one in settling, or one of a
 -- Move in writing what had room.
 abbrev pub IsRefusedPlanned : {Disk : Type 0} → (image : Disk → Option (List ℕ)) → (writes : Disk → ℕ) → Phase → Heap
     → (held held_after : List Registers) → (disk disk_after : Stale Disk) → MoveRefusal → Type 0

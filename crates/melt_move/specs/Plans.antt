@@ -38,12 +38,12 @@ pub record AreDepartures (s : State) (leaving : List Departure) : Type 0 where
   pub once : (i j : ℕ) (d e : Departure) → slice_get leaving i ≡ Some d → slice_get leaving j ≡ Some e → d.from ≡ e.from
       → i ≡ j
 
--- Who stays, one behind the other from word 1 on, and who leaves. The first ones that stay are those in registers.
+-- Who stays, one after the other from word 1 on, and who leaves. The first ones that stay are those in registers.
 pub record IsChoice (s : State) (live : LiveSet) (choice : Choice) : Type 0 where
   pub stay : Relocates s (goes choice.stay) choice.stay.moves.items choice.stay.next
   pub chooses : Chooses Move s (goes choice.stay)
-  pub held : AreHeld s choice.stay.moves.items live.front
-  pub first : take live.front choice.stay.moves.items ≡ take live.front live.forwarding.moves.items
+  pub held : AreHeld s choice.stay.moves.items live.held_count
+  pub first : take live.held_count choice.stay.moves.items ≡ take live.held_count live.forwarding.moves.items
   pub leave : AreDepartures s choice.leaving.items
 
 -- an object that leaves, or to which one that leaves refers, and that has no home yet
@@ -55,7 +55,7 @@ pub record WantsHome (s : State) (address : ℕ) : Type 0 where
 abbrev pub need_for : List Given → ℕ
 need_for given = sum (map (λ (g : Given). cost_of g.shape) given)
 
--- Exactly the objects that want a home are given one, one home behind the other. The table has, at the address of each,
+-- Exactly the objects that want a home are given one, one home after the other. The table has, at the address of each,
 -- one more than the words of the homes before it.
 pub record GivesNew (s : State) (homes : NewHomes) : Type 0 where
   pub each : (k : ℕ) (g : Given) → slice_get homes.given.items k ≡ Some g
@@ -68,7 +68,7 @@ pub record GivesNew (s : State) (homes : NewHomes) : Type 0 where
   pub counts : need_of homes.counts ≡ need_for homes.given.items
   pub small : need_for homes.given.items < 2 ^ 30
 
--- the home behind so many words of new homes, of which the first begins at a word; for 0 there is none
+-- the home after so many words of new homes, of which the first begins at a word; for 0 there is none
 abbrev pub new_home : ℕ → ℕ → ℕ
 new_home first zero = 0
 new_home first (suc before) = first + before
@@ -108,8 +108,8 @@ pub record ScionIs (s : State) (scion : ℕ) (x : Scion) : Type 0 where
 pub record IsDecision (space : SpaceWords) (s : State) (decision : Decision) : Type 0 where
   pub seen : IsSeen space s
   pub live : LiveSet
-  pub front : decision.front ≡ live.front
-  pub held_words : decision.held_words ≡ words_in (take decision.front decision.choice.stay.moves.items)
+  pub held_count : decision.held_count ≡ live.held_count
+  pub held_words : decision.held_words ≡ words_in (take decision.held_count decision.choice.stay.moves.items)
   pub choice : IsChoice s live decision.choice
   pub homes : GivesNew s decision.homes
   pub first : decision.homes.first ≡ s.base.end

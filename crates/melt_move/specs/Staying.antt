@@ -54,7 +54,7 @@ pub record ObjectStays (s : State) (decision : Decision) (held : Bool) (word : �
 pub record StandIn (s : State) (decision : Decision) (words : List ℕ) : Type 0 where
   pub size : length words ≡ words_in decision.choice.stay.moves.items
   pub objects : (k : ℕ) (m : Relocation) → slice_get decision.choice.stay.moves.items k ≡ Some m
-      → ObjectStays s decision (nat_lt k decision.front) (word_numbered words) m
+      → ObjectStays s decision (nat_lt k decision.held_count) (word_numbered words) m
 
 -- these are the words of references, each as it stays
 pub record WordsStay (s : State) (decision : Decision) (old new : List ℕ) : Type 0 where

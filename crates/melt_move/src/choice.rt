@@ -61,7 +61,7 @@ pub fn choose<L: Ledger>(
     let mut leaving = Vec::new(alloc);
     for (k, m) in live.forwarding.moves.iter().enumerate() {
         steps.tick();
-        if k >= live.front && is_stale(space, m.from) {
+        if k >= live.held_count && is_stale(space, m.from) {
             leaving.push(Departure {
                 from: m.from,
                 shape: m.shape,

@@ -40,7 +40,7 @@ fn name_each<L: Ledger>(
     ensures names { NamesGiven homes.now (name_at addresses.now) (home_name names.old) (home_name names.new) }
     ensures visits { steps.new ≤ steps.old + length homes.now.given.items }
 {
-    // Behind the last home, this may be one more than a `u32` holds.
+    // After the last home, this may be one more than a `u32` holds.
     let mut home = u64::from(homes.first);
     for g in &homes.given {
         steps.tick();

@@ -23,7 +23,7 @@ pub struct Decision {
     pub choice: Choice,
     pub homes: NewHomes,
     /// How many of those that stay registers hold: the first ones.
-    pub front: usize,
+    pub held_count: usize,
     /// The words of these.
     pub held_words: u32,
 }
@@ -52,7 +52,7 @@ pub fn decide<L: Ledger>(
     Ok(Decision {
         choice,
         homes,
-        front: live.front,
+        held_count: live.held_count,
         held_words: live.held_words,
     })
 }

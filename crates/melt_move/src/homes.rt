@@ -1,7 +1,7 @@
 //! Which objects get a home, and which home.
 //!
 //! A Body refers to homes alone. So beside the objects that leave, those that stay and to which they refer get a home.
-//! The new homes lie one behind the other, first those of the objects that leave, then the others, each in the order in
+//! The new homes lie one after the other, first those of the objects that leave, then the others, each in the order in
 //! which they were found. Before the disk was asked for room only their distances from the first one are known.
 ghost use Rattle.std.specs.Prelude.{◌≡◌, ◌≢◌, ◌↔◌, ◌^◌, ◌+◌, ◌<◌, ◌≤◌, ℕ, [], length, slice_index, Some, IfOk, OnOk};
 ghost use Rattle.melt_space.specs.Space.{word_at};

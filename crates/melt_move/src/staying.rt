@@ -49,7 +49,7 @@ fn stays_as(decision: &Decision, space: &Space, word: u64) -> u64
     }
 }
 
-/// Puts the words of references, each as it stays, behind those that are there. There is room for them.
+/// Puts the words of references, each as it stays, after those that are there. There is room for them.
 #[inline(always)]
 fn append_words<L: Ledger>(
     out: &mut Vec<u64>,
@@ -92,7 +92,7 @@ pub fn copy_words<L: Ledger>(
     out
 }
 
-/// Puts an object that stays behind the words that are there. There is room for it.
+/// Puts an object that stays after the words that are there. There is room for it.
 #[inline(always)]
 fn append_object<L: Ledger>(
     out: &mut Vec<u64>,
@@ -121,7 +121,7 @@ fn append_object<L: Ledger>(
     push_words(out, &object[numbers..], steps);
 }
 
-/// Puts the objects that stay into `out`, one behind the other. It is empty, and has room for all words in use.
+/// Puts the objects that stay into `out`, one after the other. It is empty, and has room for all words in use.
 pub fn copy_staying<L: Ledger>(
     mut out: Vec<u64>,
     decision: &Decision,
@@ -137,7 +137,14 @@ pub fn copy_staying<L: Ledger>(
 {
     for (k, m) in decision.choice.stay.moves.iter().enumerate() {
         steps.tick();
-        append_object(&mut out, decision, space, *m, k < decision.front, steps);
+        append_object(
+            &mut out,
+            decision,
+            space,
+            *m,
+            k < decision.held_count,
+            steps,
+        );
     }
     out
 }

@@ -27,7 +27,7 @@ use Rattle.melt_rule.specs.Seats.{EpochWords}
 use Rattle.melt_rule.specs.Shown.{base_at}
 use Rattle.melt_rule.specs.declared.began.Began.{Began}
 use Rattle.melt_rule.specs.declared.view.View.{View}
-use Rattle.melt_epoch.specs.Ends.{HasEnded, HasJoined, SomeCause, free_behind, unseated, view_of}
+use Rattle.melt_epoch.specs.Ends.{HasEnded, HasJoined, SomeCause, free_after, unseated, view_of}
 use Rattle.melt_epoch.specs.declared.mutator.Mutator.{Mutator}
 use Rattle.melt_safepoint.specs.declared.thread.ThreadState.{ThreadState}
 use Rattle.melt_pool.specs.Calling.{NeedsAt, NeedsIn}
@@ -221,8 +221,8 @@ module _ {R : Type 0} (faults : R → ℕ) (words : EpochWords) (t : ℕ) (ms ns
     -- its words end past the last one
     is_past : b.size + 1 < b.free + need
     is_past =
-        let past : b.size + 1 < free_behind b rs =
-        all_at (λ (m : Mutator (Worker R)). (view_of m).spaced ≡ true → b.size + 1 < free_behind b rs) rs t c.after
+        let past : b.size + 1 < free_after b rs =
+        all_at (λ (m : Mutator (Worker R)). (view_of m).spaced ≡ true → b.size + 1 < free_after b rs) rs t c.after
         ended.heap_ends.spaced c.now c.is.lacked.spaced.spaced in
         let sum : sum_by (λ (m : Mutator (Worker R)). (view_of m).claimed) rs ≡ (view_of c.after).claimed =
         changed_sum (λ (m : Mutator (Worker R)). (view_of m).claimed) t ns rs Is c

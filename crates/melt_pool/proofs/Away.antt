@@ -143,7 +143,7 @@ pub parts_full : (phase : Phase) (shown later : Shown) {old back : Heap} {h : Li
 parts_full phase shown later {old} {h} {held} left full lent_is is refused may there history =
     refused (beside_of old h held) left (sym lent_is) (names_hold old is) may there history
 
--- Each mutator has the values that its registers stand for behind the collection.
+-- Each mutator has the values that its registers stand for after the collection.
 pub away_collected : {R : Type 0} {phase : Phase} {shown later : Shown} {v w : View} {held : List Registers}
     (after : List Registers) {ms : List (Mutator R)} {plans planned : Collector} → length after ≡ length held
     → MayCollect shown.end v → CollectsCore phase shown later v w plans planned → AreAway v held ms → AreAway w after ms

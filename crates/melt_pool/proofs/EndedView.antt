@@ -1,4 +1,4 @@
--- Behind an epoch: its heap stands for its history, with the registers of its mutators in order.
+-- After an epoch: its heap stands for its history, with the registers of its mutators in order.
 use Rattle.std.proofs.Common.{◌≡◌, ◌≢◌, ℕ, zero, suc, ◌+◌, ◌<◌, ◌≤◌, List, [], ◌∷◌, length, get_or, refl, sym, ◌∙◌, ap}
 use Rattle.std.proofs.Common.{◌-◌, ◌++◌, min, take, subst, arith, inl, inr, true, false}
 use Rattle.std.proofs.Math.ListN.{get_or-map, length-map}
@@ -39,7 +39,7 @@ use Rattle.melt_core.proofs.Values.{get_or_replicate, held_is, named_made, named
 use Rattle.melt_rule.specs.Shown.{base_at, globals_from, maps_at}
 use Rattle.melt_rule.specs.Sights.{first_sight, last_sight}
 use Rattle.melt_rule.specs.declared.began.Began.{Began}
-use Rattle.melt_epoch.specs.Ends.{HasEnded, HoldsValues, disk_of, free_behind}
+use Rattle.melt_epoch.specs.Ends.{HasEnded, HoldsValues, disk_of, free_after}
 use Rattle.melt_epoch.specs.declared.mutator.Mutator.{Mutator}
 use Rattle.melt_safepoint.specs.Collections.{AllMarked, NoneForwarded}
 use Rattle.melt_safepoint.specs.Shown.{Underlies}
@@ -91,7 +91,7 @@ shows_told : (o words : Option (List ℕ)) → o ≡ words → Shows words (slic
 shows_told o None same = tt
 shows_told o (Some words) same = λ k. ap (λ (x : Option (List ℕ)). slice_index (words_told x) k) same
 
--- behind the end of a history nothing was passed
+-- after the end of a history nothing was passed
 none_passed : (h k : List Entry) (n : ℕ) → k ≡ h → Passed k (length h) n → ⊥
 none_passed h k n same (inl used) =
     let past : length k ≤ used.place =
@@ -253,7 +253,7 @@ module _ {R : Type 0} (image : R → Option (List ℕ)) (told : Bool) (heap new 
           (λ end below within. below) ended.holds in
           let size : length (registers_at seats) ≡ length seats =
           length-map seats (λ (x : Mutator R). x.registers) in
-          let used : new.space.used ≡ min (free_behind b seats - 1) (length heap.space.list) =
+          let used : new.space.used ≡ min (free_after b seats - 1) (length heap.space.list) =
           ended.heap_ends.used in
           let words : length new.space.list ≡ length heap.space.list = ended_words in
           let names = names_hold new ended_nameless in

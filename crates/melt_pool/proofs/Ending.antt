@@ -1,4 +1,4 @@
--- How an epoch ends behind the call that was made first.
+-- How an epoch ends after the call that was made first.
 use Rattle.std.proofs.Common.{◌≡◌, ℕ, ◌≤◌, List, map}
 use Rattle.std.specs.Prelude.{All, Option, None, Some}
 use Rattle.melt_model.specs.declared.history.Entry.{Entry}

@@ -25,7 +25,8 @@ use Rattle.melt_safepoint.specs.declared.thread.Mode.TheVariants.{Lacking, Ended
 use Rattle.melt_safepoint.specs.declared.thread.ThreadState.{ThreadState}
 use Rattle.melt_safepoint.proofs.Threads.{get_next}
 use Rattle.melt_pool.specs.Calling.{Calls, IsCalled}
-use Rattle.melt_pool.specs.Programs.{DueOnly, EndsWell, GoesOn, HasEndedWell, OwesSilent, ProgramStands, Took, Works}
+use Rattle.melt_pool.specs.Programs.{DueOnly, EndsWell, ThreadWentOn, HasEndedWell, OwesSilent, ProgramStands, Took}
+use Rattle.melt_pool.specs.Programs.{Works}
 use Rattle.melt_pool.specs.Programs.{dropped_for, one_going, turns_left}
 use Rattle.melt_pool.proofs.Onward.{mode_goes, refused_few, reply_goes}
 use Rattle.melt_pool.proofs.Owing.{refused_owes}
@@ -168,7 +169,7 @@ module _ {R : Type 0} (image : R → Option (List ℕ)) (faults : R → ℕ) (sc
       → Works script words m s → s.mode ≡ Running → s.op ≡ Some op → op ≢ Collect → IsSeated words n
       → m.reader ≡ Some p → n.reader ≡ Some q → IsCalled image faults told scions finish m n op result
       → Took s after result → OwesSilent every s after → DueOnly every s after
-      → GoesOn every script m (dropped_for after.mode n) s after
+      → ThreadWentOn every script m (dropped_for after.mode n) s after
   called_goes every p q after op (Ok reply) works runs next other seated mp nq called took owing due =
       let call = by_views p q op (Ok reply) works.seated seated mp nq called in
       let few : length (own (view_of n).seen m.thread) ≤ length (own (view_of m).seen m.thread) + 1 =
@@ -258,7 +259,7 @@ asked_works {R} script words m n s mode works may seated asked fits waits =
 pub asked_goes : {R : Type 0} (every : ℕ) {script : Script} {words : EpochWords} {m n : Mutator R}
     {s after : ThreadState} (mode : Mode) → Works script words m s → IsSeated words n → IsAsked m n
     → after ≡ record s { mode = mode } → owes mode ≡ owes s.mode → jobs mode (length (left s)) ≤ jobs_of s
-    → GoesOn every script m n s after
+    → ThreadWentOn every script m n s after
 asked_goes {R} every {script} {words} {m} {n} {s} {after} mode works seated asked is owed few =
     mode_goes every script m n s after mode is (ap (λ (x : Mutator R). x.thread) asked.0)
     (seen_same script words m n s works seated (asked_views words m n works.seated seated asked).sees) owed few

@@ -122,8 +122,8 @@ module _ (names : List (ℕ × ℕ)) where
         first = held.first;
         is_named = held.is_named;
       }
-      | inr behind ↦
-          let by : HeldBy ms a n = held_by ms a n behind in record {
+      | inr after ↦
+          let by : HeldBy ms a n = held_by ms a n after in record {
             place = suc by.place;
             mutator = by.mutator;
             there = by.there;

@@ -141,7 +141,7 @@ append_right [] ys i n at = let same : n ≡ i = omega (arith, at) in ap (slice_
 append_right (x ∷ xs) ys i zero at = absurd (omega (arith, at))
 append_right (x ∷ xs) ys i (suc n) at = append_right xs ys i n (omega (arith, at))
 
--- a set that has a part, and behind its numbers those of objects with these shapes
+-- a set that has a part, and after its numbers those of objects with these shapes
 part_with : {cost : ℕ → ℕ} (P Q : ℕ → Type 0) (zs : List Shape) (from : ℕ) {u q : ℕ} → CostsSum cost P u
     → CostsSum cost Q q → ((n : ℕ) → P n → Q n) → ((n : ℕ) → P n → n < from)
     → ((i n : ℕ) (z : Shape) → from + i ≡ n → slice_get zs i ≡ Some z → Q n × (cost n ≡ shape_words z))

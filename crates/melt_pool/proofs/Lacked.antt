@@ -34,7 +34,7 @@ use Rattle.melt_safepoint.proofs.TableCounts.{counts_of}
 use Rattle.melt_safepoint.proofs.Tables.{Table_renewed}
 use Rattle.melt_pool.specs.Epochs.{NeedsFrom, RefersTo}
 
--- What is so behind an epoch in which nothing was done: all stands as before, over the disk as the epoch began with it,
+-- What is so after an epoch in which nothing was done: all stands as before, over the disk as the epoch began with it,
 -- where told; and no register holds an object whose home has its Body there.
 pub record NothingDone (told : Bool) (b : Began) (shown : Shown) (old new : Row) : Type 0 where
   pub disk : OnDisk

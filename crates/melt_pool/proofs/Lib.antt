@@ -3,7 +3,7 @@ pub mod Armed
 pub mod AtRest
 pub mod Away
 pub mod Beginning
-pub mod Behind
+pub mod After
 pub mod Called
 pub mod Changed
 pub mod EndedView

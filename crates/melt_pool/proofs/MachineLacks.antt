@@ -118,9 +118,9 @@ module _ {R : Type 0} (image : R → Option (List ℕ)) (faults : R → ℕ) (wo
       omega (arith, size, ap length lacked.left, lacked.count, armed.count, armed.as_many)
 
   -- the disk under the epoch is one that is seen so
-  under_behind : (disk : OnDisk) → Underlies told shown.end shown.image disk
+  under_after : (disk : OnDisk) → Underlies told shown.end shown.image disk
       → Underlies told shown.end shown.image (disk_of b)
-  under_behind disk under =
+  under_after disk under =
       let some_words : told ≡ true → IsSome words =
       λ tells. subst (λ (o : Option (List ℕ)). IsSome o) shows (under.tells tells).0 in
       let seen : Underlies told finish words (disk_of b) =
@@ -139,7 +139,7 @@ module _ {R : Type 0} (image : R → Option (List ℕ)) (faults : R → ℕ) (wo
       let few : length registers ≤ 8 = stands.few in omega (arith, few, seats_many) in
       record {
         disk = disk_of b;
-        under = under_behind disk under;
+        under = under_after disk under;
         none_free = refl;
         renewed = record {
           stands = ended_stands (image_of image) told heap new h k finish registers ms lacked.seats nameless
@@ -175,9 +175,9 @@ module _ {R : Type 0} (image : R → Option (List ℕ)) (faults : R → ℕ) (wo
       }
 
   -- the thread lacks these words
-  lacks_behind : (script : Script) (config : Config) (forced : ℕ) → AwaitsCall told script config shown forced old t
+  lacks_after : (script : Script) (config : Config) (forced : ℕ) → AwaitsCall told script config shown forced old t
       → LacksWords told script config shown forced row t need
-  lacks_behind script config forced awaits =
+  lacks_after script config forced awaits =
       let stands : StandsBut _ told script config shown old = awaits.stands in
       let table : TableStands told script config stands.disk v states = stands.table in
       let s : ThreadState = awaits.waits.0 in
@@ -207,7 +207,7 @@ module _ {R : Type 0} (image : R → Option (List ℕ)) (faults : R → ℕ) (wo
         keeps = λ tells script config forced awaits.
             let same : told ≡ tells = awaits.stands.told_is in
             subst (λ (c : Bool). LacksWords c script config shown forced row t need) same
-            (lacks_behind script config forced
+            (lacks_after script config forced
             (subst (λ (c : Bool). AwaitsCall c script config shown forced old t) (sym same) awaits));
         states = same_states;
         collector = refl;

@@ -1,4 +1,4 @@
--- What is left of a machine of real threads behind an epoch.
+-- What is left of a machine of real threads after an epoch.
 use Rattle.std.proofs.Common.{◌≡◌, ℕ, ◌+◌, ◌-◌, ◌^◌, ◌≤◌, List, length, map, refl, sym, ◌∙◌, ap, subst, arith, inl, inr}
 use Rattle.std.proofs.Math.ListN.{length-map}
 use Rattle.std.proofs.lemmas.Bool.{cases_eq}
@@ -235,23 +235,23 @@ module _ {R : Type 0} (image : R → Option (List ℕ)) (faults : R → ℕ) (sh
       → SomeMayRun shown first (machine_row heap h registers states collector room every told)
       → Ended image faults shown.end every first b ms ns new k lacks
       → EndsEpoch shown first (machine_row heap h registers states collector room every told)
-      (machine_row new k registers_after after collector room every told) lacks → {before behind : ℕ}
-      → CountsReaders faults ns before behind → CountsLosses states after before behind
-  leaves_lost {after} {registers_after} {ms_after} disarmed collector room first None may ended ends {before} {behind}
+      (machine_row new k registers_after after collector room every told) lacks → {before later : ℕ}
+      → CountsReaders faults ns before later → CountsLosses states after before later
+  leaves_lost {after} {registers_after} {ms_after} disarmed collector room first None may ended ends {before} {later}
       counts =
       let row : Row = machine_row heap h registers states collector room every told in
       let begin : MayBegin may.0 may.1 may.2 shown first row = may_begin may.0 may.1 may.2 shown first row may.3 in
       let f : Mutator (Worker R) → ℕ = λ (m : Mutator (Worker R)). open_faults (faults_of faults) m.reader in
-      let counted : (before + sum (map f ns) ≤ behind) ⊎ (2 ^ 64 - 1 ≤ behind) = elim counts.counted [
-        | inl few ↦ let few : sum (map f ns) + before ≤ behind = few in inl (omega (arith, few))
+      let counted : (before + sum (map f ns) ≤ later) ⊎ (2 ^ 64 - 1 ≤ later) = elim counts.counted [
+        | inl few ↦ let few : sum (map f ns) + before ≤ later = few in inl (omega (arith, few))
         | inr full ↦ inr full
       ] in
       passed_losses may.0 may.1 may.2 begin.stands.disk row.view states image faults shown.image registers ms b
       begin.stands.told_is refl begin.stands.table armed begin.stands.table.globals shown.end every first ns new k ended
-      after registers_after ms_after disarmed before behind counted
+      after registers_after ms_after disarmed before later counted
   leaves_lost {after} {registers_after} {ms_after} disarmed collector room None (Some need) may ended ends {before}
-      {behind} counts =
+      {later} counts =
       absurd ended
   leaves_lost {after} {registers_after} {ms_after} disarmed collector room (Some t) (Some need) may ended ends {before}
-      {behind} counts =
-      counts_risen states after before behind (ap losses ends.states) counts.rises
+      {later} counts =
+      counts_risen states after before later (ap losses ends.states) counts.rises

@@ -78,8 +78,8 @@ module _ {R : Type 0} (image : R → Option (List ℕ)) (faults : R → ℕ) (wo
       omega (arith, size, ap length passed.left, passed.count, armed.count, armed.as_many)
 
   -- the values of a thread are those of its mutator
-  values_behind : (t : ℕ) (n : Mutator (Worker R)) → slice_get ns t ≡ Some n → values_of w t ≡ n.values
-  values_behind t n at =
+  values_after : (t : ℕ) (n : Mutator (Worker R)) → slice_get ns t ≡ Some n → values_of w t ≡ n.values
+  values_after t n at =
       let below : (seated : Mutator (Worker R)) × (slice_get passed.seats t ≡ Some seated) =
       stands_there passed.seats t (omega (
         arith,
@@ -99,9 +99,9 @@ module _ {R : Type 0} (image : R → Option (List ℕ)) (faults : R → ℕ) (wo
       ∙ (held ∙ ap (λ (x : Mutator (Worker R)). x.values) came)
 
   -- the disk under the epoch is one that is seen so
-  under_behind : (disk : OnDisk) → Underlies told shown.end shown.image disk
+  under_after : (disk : OnDisk) → Underlies told shown.end shown.image disk
       → Underlies told shown.end shown.image (disk_of b)
-  under_behind disk under =
+  under_after disk under =
       let some_words : told ≡ true → IsSome words =
       λ tells. subst (λ (o : Option (List ℕ)). IsSome o) shows (under.tells tells).0 in
       let seen : Underlies told finish words (disk_of b) =
@@ -117,7 +117,7 @@ module _ {R : Type 0} (image : R → Option (List ℕ)) (faults : R → ℕ) (wo
   leaves_run = record {
     shows = λ disk under free stands. (
       disk_of b,
-      under_behind disk under,
+      under_after disk under,
       refl,
       record {
         stands = subst (λ (rs : List Registers). Standing told (disk_of b) (parts_view new k rs))
@@ -135,7 +135,7 @@ module _ {R : Type 0} (image : R → Option (List ℕ)) (faults : R → ℕ) (wo
             passed.ended;
         forwards = ended_forwards (image_of image) told heap new h k finish registers ms passed.seats nameless
             passed.ended;
-        values = values_behind;
+        values = values_after;
       },
     );
     made = λ tells disk stands.

@@ -50,7 +50,7 @@ nothing_held zero u r = refl
 nothing_held (suc threads) zero r = get_or_replicate 16 r 0
 nothing_held (suc threads) (suc u) r = nothing_held threads u r
 
--- the words of a new thread behind the head of a record
+-- the words of a new thread after the head of a record
 rest_new : (threads u : ℕ) → u < threads
     → length {A = ℕ} (get_or (replicate threads (replicate max_rest 0)) u []) ≡ max_rest
 rest_new zero u below = absurd (omega (arith, below))

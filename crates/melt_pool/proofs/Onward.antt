@@ -1,4 +1,4 @@
--- A thread goes on in an epoch, one call behind another.
+-- A thread goes on in an epoch, one call after another.
 use Rattle.std.proofs.Common.{[], ◌≡◌, ◌≢◌, ℕ, suc, ◌+◌, ◌<◌, ◌≤◌, List, ◌∷◌, ◌++◌, length, take, refl, sym}
 use Rattle.std.proofs.Common.{◌∙◌, ap, subst, arith, length-append, inl, inr, true, false}
 use Rattle.std.proofs.lemmas.List.{append-nil, append_assoc}
@@ -26,7 +26,8 @@ use Rattle.melt_safepoint.specs.declared.thread.Mode.TheVariants.{Lacking, Ended
 use Rattle.melt_safepoint.specs.declared.thread.ThreadState.{ThreadState}
 use Rattle.melt_safepoint.proofs.Counting.{is_no_collect}
 use Rattle.melt_safepoint.proofs.Threads.{take_next}
-use Rattle.melt_pool.specs.Programs.{DueOnly, GoesOn, IsDueBehind, OwesSilent, ProgramStands, collects_in, made_again}
+use Rattle.melt_pool.specs.Programs.{DueOnly, ThreadWentOn, IsDueAfter, OwesSilent, ProgramStands, collects_in}
+use Rattle.melt_pool.specs.Programs.{made_again}
 use Rattle.melt_pool.specs.Programs.{mode_again}
 use Rattle.melt_pool.proofs.Owing.{again_owes, mode_owes, owes_on, refused_owes}
 
@@ -40,7 +41,7 @@ owed_as true true same is = refl
 owed_as true false same is = absurd (omega (arith, same))
 owed_as false b same is = absurd (cc)
 
--- one that is due behind a reply
+-- one that is due after a reply
 pub reply_due : (every : ℕ) (s after : ThreadState) (reply : Reply) → DueBy every s after → TakesReply s after reply
     → DueOnly every s after
 reply_due every s after reply due takes owing =
@@ -70,13 +71,13 @@ pub refusal_due : (every : ℕ) (s after : ThreadState) (why : Refusal) (mode : 
 refusal_due every s after why mode runs is same =
     mode_due every s after mode same (ap owes is ∙ (refused_owes why ∙ sym (ap owes runs)))
 
--- one part behind another
+-- one part after another
 due_on : (every : ℕ) (s mid after : ThreadState) → DueOnly every s mid → DueOnly every mid after
     → DueOnly every s after
 due_on every s mid after first second owing = elim (second owing) [
   | inl kept ↦ elim (first kept.0) [
     | inl before ↦ inl (before.0, kept.1 ∙ before.1)
-    | inr brought ↦ inr (subst (λ (rs : List Reply). IsDueBehind every (length rs)) (sym kept.1) brought)
+    | inr brought ↦ inr (subst (λ (rs : List Reply). IsDueAfter every (length rs)) (sym kept.1) brought)
   ]
   | inr brought ↦ inr brought
 ]
@@ -177,10 +178,10 @@ module _ {R : Type 0} (every : ℕ) (script : Script) (m n : Mutator R) (s : Thr
   -- a thread goes on in another mode alone
   pub mode_goes : (after : ThreadState) (mode : Mode) → after ≡ record s { mode = mode } → n.thread ≡ m.thread
       → own (view_of n).seen m.thread ≡ own (view_of m).seen m.thread → owes mode ≡ owes s.mode
-      → jobs mode (length (left s)) ≤ jobs_of s → GoesOn every script m n s after
+      → jobs mode (length (left s)) ≤ jobs_of s → ThreadWentOn every script m n s after
   mode_goes after mode is thread same owed few =
       let moved : ThreadState = record s { mode = mode } in
-      let here : GoesOn every script m n s moved = record {
+      let here : ThreadWentOn every script m n s moved = record {
         thread = thread;
         extra = [];
         grows = sym (append-nil s.replies.items);
@@ -190,14 +191,14 @@ module _ {R : Type 0} (every : ℕ) (script : Script) (m n : Mutator R) (s : Thr
         less = few;
         entries = omega (arith, ap length same);
       } in
-      subst (GoesOn every script m n s) (sym is) here
+      subst (ThreadWentOn every script m n s) (sym is) here
 
   -- with a reply
   pub reply_goes : (after : ThreadState) (op : Op) (reply : Reply) → n.thread ≡ m.thread
       → ProgramStands script m.thread s → s.mode ≡ Running → s.op ≡ Some op → op ≢ Collect
       → TakesReply s after reply → OwesSilent every s after → DueOnly every s after
       → length (own (view_of n).seen m.thread) ≤ length (own (view_of m).seen m.thread) + 1
-      → GoesOn every script m n s after
+      → ThreadWentOn every script m n s after
   reply_goes after op reply thread program runs next other takes owing due few = record {
     thread = thread;
     extra = reply ∷ [];
@@ -214,14 +215,15 @@ module _ {R : Type 0} (every : ℕ) (script : Script) (m n : Mutator R) (s : Thr
 
 -- a call is made again
 pub again_goes : {R : Type 0} (every : ℕ) (script : Script) (m : Mutator R) (s after : ThreadState)
-    → after ≡ made_again s → GoesOn every script m m s after
+    → after ≡ made_again s → ThreadWentOn every script m m s after
 again_goes every script m s after is =
     mode_goes every script m m s after (mode_again s.mode) is refl refl (again_owes s.mode)
     (again_jobs s.mode (length (left s)))
 
--- one part behind another
+-- one part after another
 pub goes_then : {R : Type 0} {every : ℕ} {script : Script} {m n k : Mutator R} {s mid after : ThreadState}
-    → GoesOn every script m n s mid → GoesOn every script n k mid after → GoesOn every script m k s after
+    → ThreadWentOn every script m n s mid → ThreadWentOn every script n k mid after
+    → ThreadWentOn every script m k s after
 goes_then {every} {script} {m} {n} {k} {s} {mid} {after} first second =
     let collects : collects_in script m.thread after ≡ collects_in script m.thread mid =
     subst (λ (t : ℕ). collects_in script t after ≡ collects_in script t mid) first.thread second.collects in
@@ -247,7 +249,9 @@ goes_then {every} {script} {m} {n} {k} {s} {mid} {after} first second =
 
 -- that does not rest on readers
 pub goes_with : {R : Type 0} {every : ℕ} {script : Script} {m n : Mutator R} {s after : ThreadState} (p q : Option R)
-    → GoesOn every script m n s after → GoesOn every script (record m { reader = p }) (record n { reader = q }) s after
+    → ThreadWentOn every script m n s after → ThreadWentOn every script (record m { reader = p }) (record n {
+      reader = q;
+    }) s after
 goes_with p q on = record {
   thread = on.thread;
   extra = on.extra;

@@ -23,7 +23,7 @@ use Rattle.melt_pool.specs.Programs.{OwesSilent, mode_again}
 abbrev config_of : ℕ → Config
 config_of every = record { heap = 0; forward = 0; disk = 0; mark = 0; move_ = 0; every = every }
 
--- a reply brings a silent collection where one is due behind it
+-- a reply brings a silent collection where one is due after it
 pub reply_owes : (every : ℕ) (s after : ThreadState) (reply : Reply) → s.mode ≡ Running → DueBy every s after
     → TakesReply s after reply → OwesSilent every s after
 reply_owes every s after reply runs due takes =
@@ -76,7 +76,7 @@ runs_some mode op runs none fits =
     let no : false ≡ true = subst IsSome none some_ in
     absurd (cc)
 
--- one part behind another
+-- one part after another
 pub owes_on : (every : ℕ) (s mid after : ThreadState) → OwesSilent every s mid → OwesSilent every mid after
     → OwesSilent every s after
 owes_on every s mid after first second = omega (arith, first, second)

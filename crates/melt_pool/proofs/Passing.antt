@@ -27,7 +27,7 @@ use Rattle.melt_safepoint.specs.declared.thread.Mode.TheVariants.{Lacking, Ended
 use Rattle.melt_safepoint.specs.declared.thread.ThreadState.{ThreadState}
 use Rattle.melt_pool.specs.Epochs.{AllMayRun, AllRest, GoesFrom, HasPassed, Passes, Rests}
 use Rattle.melt_pool.specs.Firsts.{AllRunFrom}
-use Rattle.melt_pool.specs.Programs.{GoesOn, IsToldBy, ProgramStands, collects_in, made_again, mode_again}
+use Rattle.melt_pool.specs.Programs.{ThreadWentOn, RepliesStandIn, ProgramStands, collects_in, made_again, mode_again}
 use Rattle.melt_pool.specs.Workers.{HasRun, MayRun}
 use Rattle.melt_pool.specs.declared.worker.Worker.{Worker}
 use Rattle.melt_pool.proofs.Growing.{stands_more}
@@ -99,19 +99,20 @@ module _ {R : Type 0} where
           program = subst (λ (t : ℕ). ProgramStands script t (made_again s)) (sym thread)
               (program_stays script m.thread s (mode_again s.mode) rests.program
               (again_fits s.mode s.op rests.program.fits));
-          told = λ tells.
-              let was : IsToldBy script words.start.began.history m.thread s m.values = rests.is_told tells in
-              let now : IsToldBy script words.start.began.history m.thread (made_again s) m.values = record {
+          replies_stand = λ tells.
+              let was : RepliesStandIn script words.start.began.history m.thread s m.values = rests.replies_stand tells
+              in
+              let now : RepliesStandIn script words.start.began.history m.thread (made_again s) m.values = record {
                 registers = was.registers;
-                told = was.told;
+                stands = was.stands;
                 in_registers = elim was.in_registers [
                   | inl over ↦ inl (ended_again s.mode over)
                   | inr held ↦ inr held
                 ];
               } in
-              subst (λ (h : List Entry). IsToldBy script h n.thread (made_again s) n.values) (sym joined.seen)
-              (subst (λ (t : ℕ). IsToldBy script words.start.began.history t (made_again s) n.values) (sym thread)
-              (subst (λ (vs : List Value). IsToldBy script words.start.began.history m.thread (made_again s) vs)
+              subst (λ (h : List Entry). RepliesStandIn script h n.thread (made_again s) n.values) (sym joined.seen)
+              (subst (λ (t : ℕ). RepliesStandIn script words.start.began.history t (made_again s) n.values) (sym thread)
+              (subst (λ (vs : List Value). RepliesStandIn script words.start.began.history m.thread (made_again s) vs)
               (sym values) now));
           dropped = λ over. values ∙ rests.dropped (again_ended s.mode over);
           waits = λ cause. absurd (
@@ -125,7 +126,7 @@ module _ {R : Type 0} where
 
   -- What a thread has done since the epoch began stands in the history of all.
   goes_from : {every : ℕ} {script : Script} {before h : List Entry} {s after : ThreadState} {m n : Mutator (Worker R)}
-      → GoesOn every script m n s after → (view_of m).seen ≡ before → Saw h n.thread (view_of n).seen
+      → ThreadWentOn every script m n s after → (view_of m).seen ≡ before → Saw h n.thread (view_of n).seen
       → GoesFrom every script n.thread before h s after
   goes_from {script} {before} {h} {s} {after} {m} {n} on began saw =
       let all : length (own h n.thread) ≡ length (own (view_of n).seen n.thread) = ap length saw.own_same in
@@ -149,13 +150,13 @@ module _ {R : Type 0} where
         entries = omega (arith, all, here);
       }
 
-  -- a thread passes an epoch, and has less to do behind it if its call was made first
+  -- a thread passes an epoch, and has less to do after it if its call was made first
   abbrev PassesFrom : (R → ℕ) → (finish every : ℕ) → Option ℕ → ℕ → Began → Script → List Entry → ThreadState
       → (seated n : Mutator (Worker R)) → Type 0
   PassesFrom faults finish every first k b script h s seated n =
       (x : Passes faults finish every b script h s seated n) × (first ≡ Some k → jobs_of x.after < jobs_of s)
 
-  -- and rests behind it, by the history of all
+  -- and rests after it, by the history of all
   run_passes : {faults : R → ℕ} {finish every : ℕ} (first : Option ℕ) (k : ℕ) {script : Script} {words : EpochWords}
       {h : List Entry} {s : ThreadState} {m n : Mutator (Worker R)}
       (run : HasRun faults finish every script words s m n) → (first ≡ Some k → jobs_of run.after < jobs_of s)
@@ -167,17 +168,17 @@ module _ {R : Type 0} where
       rests = record {
         brings = record { worker = run.brings.worker; there = run.brings.there; state = run.brings.state };
         program = run.works.program;
-        is_told = λ tells.
-            let was = run.works.told tells in
+        replies_stand = λ tells.
+            let was = run.works.replies_stand tells in
             record {
               registers = was.registers;
-              told = subst
+              stands = subst
                   (λ (g : List Entry). Stands g n.thread
                   (take (length run.after.replies.items) (operations script n.thread)) run.after.replies.items
                   was.registers) saw.begins.1
                   (stands_more (view_of n).seen saw.begins.0 n.thread
                   (take (length run.after.replies.items) (operations script n.thread)) run.after.replies.items
-                  was.registers (ap (λ (g : List Entry). own g n.thread) saw.begins.1 ∙ saw.own_same) was.told);
+                  was.registers (ap (λ (g : List Entry). own g n.thread) saw.begins.1 ∙ saw.own_same) was.stands);
               in_registers = was.in_registers;
             };
         dropped = run.works.dropped;
@@ -206,7 +207,7 @@ module _ {R : Type 0} where
       joined_works script words rests.0 (unseated n) n rest.globals rests.1 refl
       (all_at (HasJoined words) ns k n joined at))
 
-  -- behind their runs all have their seats
+  -- after their runs all have their seats
   pub all_seated : {faults : R → ℕ} {finish every : ℕ} {first : Option ℕ} (script : Script) {words : EpochWords}
       {ns rs : List (Mutator (Worker R))} → AllMayRun script words ns → AllRunFrom faults finish every first words ns rs
       → All (IsSeated words) rs
@@ -231,7 +232,7 @@ module _ {R : Type 0} where
         seated = seated;
       }
 
-  -- A mutator before an epoch and behind it is, without its seat, the one that began it and the one that ran in it.
+  -- A mutator before an epoch and after it is, without its seat, the one that began it and the one that ran in it.
   record StandsAt (ns rs : List (Mutator (Worker R))) (k : ℕ) (m q : Mutator (Worker R)) : Type 0 where
     began : Mutator (Worker R)
     ran : Mutator (Worker R)

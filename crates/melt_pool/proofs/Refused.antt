@@ -127,7 +127,7 @@ module _ (told : Bool) (image : Option (List ℕ)) (scions : Scions) (end before
     λ config within. was_read because.3.0 damaged config because.3.1 within because.3.2,
   )
 
--- what the mode behind a refused call says of its operation
+-- what the mode after a refused call says of its operation
 fits_some : (why : Refusal) (o : Op) → o ≢ Collect → FitsMode (mode_for why) (Some o)
 fits_some (Pause Asked) o other = (refl, λ is. other (let same : Some o ≡ Some Collect = is in cc))
 fits_some (Pause (Space need)) o other = (refl, λ is. other (let same : Some o ≡ Some Collect = is in cc))

@@ -7,7 +7,7 @@ use Rattle.melt_epoch.specs.Mutators.{HasReader, IsSeated}
 use Rattle.melt_epoch.specs.declared.mutator.Mutator.{Mutator}
 use Rattle.melt_safepoint.specs.Modes.{IsEnded, MayGo}
 use Rattle.melt_safepoint.specs.declared.thread.ThreadState.{ThreadState}
-use Rattle.melt_pool.specs.Programs.{GoesOn, HasEndedWell, WaitsByCause, Works}
+use Rattle.melt_pool.specs.Programs.{ThreadWentOn, HasEndedWell, WaitsByCause, Works}
 use Rattle.melt_pool.specs.Workers.{Brings, HasRun, faults_of, image_of}
 use Rattle.melt_pool.specs.declared.worker.Worker.{Worker}
 use Rattle.melt_pool.proofs.Onward.{goes_with}
@@ -32,7 +32,7 @@ pub works_with : {R : Type 0} (script : Script) (words : EpochWords) (m : Mutato
 works_with script words m s r works = record {
   seated = seated_with words m r works.seated;
   program = works.program;
-  told = works.told;
+  replies_stand = works.replies_stand;
   dropped = works.dropped;
   waits = works.waits;
   asked = works.asked;
@@ -66,7 +66,7 @@ pub has_run : {R : Type 0} (faults : R → ℕ) (finish : ℕ) {every : ℕ} {sc
     {w : Worker R} → r.reader ≡ Some w → n ≡ record r { reader = Some (record w { state = Some after }) }
     → Works script words r after → (MayGo after.mode → ⊥) → (IsEnded s.mode → after ≡ s) → (IsEnded s.mode → n ≡ m)
     → ((IsEnded s.mode → ⊥) → HasEndedWell (faults_of faults) words.start.began.told finish script r after)
-    → GoesOn every script (record m { reader = taken }) r s after → WaitsByCause s.mode after.mode r
+    → ThreadWentOn every script (record m { reader = taken }) r s after → WaitsByCause s.mode after.mode r
     → HasRun faults finish every script words s m n
 has_run {R} faults finish {every} {script} {words} {s} {after} m {r} taken {w} there is works waits ended kept ends goes
     caused =

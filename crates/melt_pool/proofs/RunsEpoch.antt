@@ -1,4 +1,4 @@
--- A run of real threads stands behind an epoch.
+-- A run of real threads stands after an epoch.
 use Rattle.std.proofs.Common.{◌≡◌, ◌⊎◌, ℕ, suc, ◌<◌, ◌≤◌, true, List, [], length, refl, sym, ◌∙◌, subst, arith}
 use Rattle.std.proofs.Common.{inl, inr}
 use Rattle.std.proofs.lemmas.Option.{slice_get_within}
@@ -25,7 +25,7 @@ use Rattle.melt_pool.specs.Epochs.{HasPassed}
 use Rattle.melt_pool.specs.Machines.{AreArmed, AreDisarmed}
 use Rattle.melt_pool.specs.declared.worker.Worker.{Worker}
 use Rattle.melt_pool.proofs.ThreadsPassed as threads
-use Rattle.melt_pool.proofs.ThreadsPassed.{ShowsBehind}
+use Rattle.melt_pool.proofs.ThreadsPassed.{ShowsAfter}
 
 -- A run that may begin an epoch stands, where so many collections are unpaid: none, or those for the call that is made
 -- first.
@@ -68,7 +68,7 @@ pub record LeavesRun {R : Type 0} (shown : Shown) (old new : Row) (h : List Entr
     : Type 0 where
   pub shows : (disk : OnDisk) → Underlies old.told shown.end shown.image disk → disk.free_homes ≡ []
       → Standing old.told disk old.view → (later : OnDisk) × Underlies old.told shown.end shown.image later
-      × (later.free_homes ≡ []) × ShowsBehind old.told later old.view new.view h ns
+      × (later.free_homes ≡ []) × ShowsAfter old.told later old.view new.view h ns
   pub made : old.told ≡ true → (disk : OnDisk) → Standing true disk old.view → KeepsMade old.view new.view
   pub words : new.words ≡ old.words
   pub every : new.every ≡ old.every
@@ -126,11 +126,11 @@ module _ {R : Type 0} (image : R → Option (List ℕ)) (faults : R → ℕ) (wo
     ]
 
     -- the run stands
-    pub stands_behind : RunStands old.told script config shown new
-    stands_behind =
+    pub stands_after : RunStands old.told script config shown new
+    stands_after =
         let stands : StandsBut may.unpaid old.told script config shown old = may.stands in
         let shows : (later : OnDisk) × Underlies old.told shown.end shown.image later
-        × (later.free_homes ≡ []) × ShowsBehind old.told later old.view new.view h ns =
+        × (later.free_homes ≡ []) × ShowsAfter old.told later old.view new.view h ns =
         leaves.shows stands.disk stands.under stands.none_free table.stands in
         let within : finish ≤ config.disk =
         subst (λ (n : ℕ). n ≤ config.disk) ends stands.collector.within in
@@ -179,7 +179,7 @@ module _ {R : Type 0} (image : R → Option (List ℕ)) (faults : R → ℕ) (wo
         keeps = λ told script config may.
             let that : (old.told ≡ told) × MayBegin old.told script config shown first old =
             begins_as told script config may in
-            subst (λ (c : Bool). RunStands c script config shown new) that.0 (stands_behind script config that.1);
+            subst (λ (c : Bool). RunStands c script config shown new) that.0 (stands_after script config that.1);
         rests = rests_well some.1 some.2 it.1;
         less = no_more some.1 some.2 it.1;
         first_less = if_some first (λ t. to_do new.states < to_do old.states)

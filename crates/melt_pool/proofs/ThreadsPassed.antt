@@ -1,4 +1,4 @@
--- The threads of a run behind an epoch.
+-- The threads of a run after an epoch.
 use Rattle.std.proofs.Common.{◌≡◌, ℕ, zero, suc, ◌+◌, ◌-◌, ◌^◌, ◌%◌, ◌<◌, ◌≤◌, true, List, [], ◌∷◌, ◌++◌, length, refl}
 use Rattle.std.proofs.Common.{sym, ◌∙◌, ap, subst, arith, inl, inr, ◌⊎◌}
 use Rattle.std.proofs.Math.ListN.{get_elem?, length-map}
@@ -41,7 +41,7 @@ use Rattle.melt_safepoint.proofs.Modes.{ends_later}
 use Rattle.melt_pool.specs.Epochs.{AllRest, GoesFrom, HasPassed, Passes, Rests}
 use Rattle.melt_pool.specs.Machines.{AreArmed, AreDisarmed}
 use Rattle.melt_pool.specs.Parts.{most_entries}
-use Rattle.melt_pool.specs.Programs.{EndsWell, IsToldBy, ProgramStands}
+use Rattle.melt_pool.specs.Programs.{EndsWell, RepliesStandIn, ProgramStands}
 use Rattle.melt_pool.specs.Workers.{Brings, faults_of}
 use Rattle.melt_pool.specs.declared.worker.Worker.{Worker}
 use Rattle.melt_pool.proofs.Passing.{all_at}
@@ -55,9 +55,9 @@ use Rattle.melt_pool.proofs.ThreadsWent as went
 abbrev pub faults_in : {R : Type 0} → (R → ℕ) → Mutator (Worker R) → ℕ
 faults_in faults m = open_faults (faults_of faults) m.reader
 
--- What a run shows behind an epoch in which it showed this before: the history is this one, and each thread has the
+-- What a run shows after an epoch in which it showed this before: the history is this one, and each thread has the
 -- values of its mutator.
-pub record ShowsBehind {R : Type 0} (told : Bool) (disk : OnDisk) (v w : View) (h : List Entry)
+pub record ShowsAfter {R : Type 0} (told : Bool) (disk : OnDisk) (v w : View) (h : List Entry)
     (ns : List (Mutator (Worker R))) : Type 0 where
   pub stands : Standing told disk w
   pub log : w.log ≡ h
@@ -92,7 +92,7 @@ brings_one n s x one two =
 less_same : (y x s : ThreadState) → y ≡ x → jobs_of y < jobs_of s → jobs_of x < jobs_of s
 less_same y x s same less = subst (λ (z : ThreadState). jobs_of z < jobs_of s) same less
 
--- A thread behind an epoch, with its mutators: that which it brought, its seat in the end, and that which came back.
+-- A thread after an epoch, with its mutators: that which it brought, its seat in the end, and that which came back.
 pub record PassedAt {R : Type 0} (faults : R → ℕ) (finish every : ℕ) (first : Option ℕ) (b : Began) (script : Script)
     (h : List Entry) (seats ns : List (Mutator (Worker R))) (t : ℕ) (s x : ThreadState) : Type 0 where
   pub seated : Mutator (Worker R)
@@ -163,7 +163,7 @@ module _ {R : Type 0} (told : Bool) (script : Script) (config : Config) (disk : 
         less = λ here. less_same each.0.after x s same (each.1 here);
       }
 
-  -- the history goes on behind the one before
+  -- the history goes on after the one before
   pub goes_on : (more : List Entry) × (v.log ++ more ≡ h)
   goes_on =
       let since : Begins b.history h = passed.ended.history.since in
@@ -202,8 +202,8 @@ module _ {R : Type 0} (told : Bool) (script : Script) (config : Config) (disk : 
       subst (λ (g : List Entry). All (λ (e : Entry). e.thread < length states) g) (sym history)
       (subst (λ (n : ℕ). All (λ (e : Entry). e.thread < n) v.log) (sym table.count) table.own)
 
-  all_behind : All (λ (e : Entry). e.thread < length states) h
-  all_behind =
+  all_after : All (λ (e : Entry). e.thread < length states) h
+  all_after =
       all_below h (length states)
       (λ t past. passed.ended.history.strangers t
       (λ there. let below : t < length states = sits_below t there in absurd (omega (arith, below, past)))
@@ -409,10 +409,10 @@ module _ {R : Type 0} (told : Bool) (script : Script) (config : Config) (disk : 
         total_list (faults_in faults) ns,
       )
 
-  pub passed_losses : (before behind : ℕ)
-      → (before + sum (map (faults_in faults) ns) ≤ behind) ⊎ (2 ^ 64 - 1 ≤ behind)
-      → CountsLosses states after before behind
-  passed_losses before behind counted = record {
+  pub passed_losses : (before beyond : ℕ)
+      → (before + sum (map (faults_in faults) ns) ≤ beyond) ⊎ (2 ^ 64 - 1 ≤ beyond)
+      → CountsLosses states after before beyond
+  passed_losses before beyond counted = record {
     counted = elim counted [
       | inl few ↦ inl (omega (arith, few, passed_lost))
       | inr full ↦ inr full
@@ -421,7 +421,7 @@ module _ {R : Type 0} (told : Bool) (script : Script) (config : Config) (disk : 
   }
 
   -- all threads stand
-  module _ (later : OnDisk) (w : View) (shows : ShowsBehind told later v w h ns) (within : finish ≤ config.disk)
+  module _ (later : OnDisk) (w : View) (shows : ShowsAfter told later v w h ns) (within : finish ≤ config.disk)
       (same : every ≡ config.every) where
     passed_stands : (t : ℕ) (s x : ThreadState) → slice_get states t ≡ Some s → slice_get after t ≡ Some x
         → ThreadStands told script w t x
@@ -434,14 +434,14 @@ module _ {R : Type 0} (told : Bool) (script : Script) (config : Config) (disk : 
           to_come = program.to_come;
           within = program.within;
           none_left = program.none_left;
-          is_told = λ tells.
-              let by : IsToldBy script w.log t x it.back.values =
-              subst (λ (g : List Entry). IsToldBy script g t x it.back.values) (sym shows.log)
-              (subst (λ (n : ℕ). IsToldBy script h n x it.back.values) it.thread
-              (rests.is_told (is_told ∙ tells))) in
+          replies_stand = λ tells.
+              let by : RepliesStandIn script w.log t x it.back.values =
+              subst (λ (g : List Entry). RepliesStandIn script g t x it.back.values) (sym shows.log)
+              (subst (λ (n : ℕ). RepliesStandIn script h n x it.back.values) it.thread
+              (rests.replies_stand (is_told ∙ tells))) in
               record {
                 registers = by.registers;
-                told = by.told;
+                stands = by.stands;
                 in_registers = elim by.in_registers [
                   | inl over ↦ inl over
                   | inr held ↦ inr (held ∙ sym (shows.values t it.back it.came))
@@ -467,11 +467,11 @@ module _ {R : Type 0} (told : Bool) (script : Script) (config : Config) (disk : 
       }
     ]
 
-    few_behind : length w.log + to_reply after ≤ 8388608
-    few_behind =
+    few_after : length w.log + to_reply after ≤ 8388608
+    few_after =
         let few : length v.log + to_reply states ≤ 8388608 = table.few in
         let grown : length h + to_reply after ≤ length b.history + to_reply states =
-        went.went_entries every script b.history h states after all_went all_before all_behind in
+        went.went_entries every script b.history h states after all_went all_before all_after in
         omega (arith, few, grown, ap length history, ap length shows.log)
 
     pub passed_table : TableStands told script config later w after
@@ -489,7 +489,7 @@ module _ {R : Type 0} (told : Bool) (script : Script) (config : Config) (disk : 
           went.sooner_at every script b.history h states after all_went t x is in
           passed_stands t s.0 x s.1 is;
       own = subst (λ (g : List Entry). All (λ (e : Entry). e.thread < length script.programs) g) (sym shows.log)
-          (subst (λ (n : ℕ). All (λ (e : Entry). e.thread < n) h) table.count all_behind);
+          (subst (λ (n : ℕ). All (λ (e : Entry). e.thread < n) h) table.count all_after);
       due = λ t x is.
           let s : (s : ThreadState) × (slice_get states t ≡ Some s) =
           went.sooner_at every script b.history h states after all_went t x is in
@@ -499,8 +499,8 @@ module _ {R : Type 0} (told : Bool) (script : Script) (config : Config) (disk : 
           went.sooner_at every script b.history h states after all_went t x is in
           subst (λ (g : List Entry). EndsSo told script g after config t x.mode) (sym shows.log)
           (passed_ends within t s.0 x s.1 is);
-      entries = subst (λ (n : ℕ). length w.log + to_reply after ≤ n) (sym shows.capacity) few_behind;
-      few = few_behind;
+      entries = subst (λ (n : ℕ). length w.log + to_reply after ≤ n) (sym shows.capacity) few_after;
+      few = few_after;
     }
 
     -- and so the moments of collections stay in what the run shows

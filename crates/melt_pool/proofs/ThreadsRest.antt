@@ -11,11 +11,11 @@ use Rattle.melt_scion.specs.declared.registers.Registers.{Registers}
 use Rattle.melt_core.specs.Views.{View}
 use Rattle.melt_rule.specs.declared.began.Began.{Began}
 use Rattle.melt_epoch.specs.declared.mutator.Mutator.{Mutator}
-use Rattle.melt_safepoint.specs.Tables.{IsTold, TableStands, ThreadStands}
+use Rattle.melt_safepoint.specs.Tables.{RepliesStand, TableStands, ThreadStands}
 use Rattle.melt_safepoint.specs.declared.thread.ThreadState.{ThreadState}
 use Rattle.melt_pool.specs.Epochs.{AllRest, Rests}
 use Rattle.melt_pool.specs.Machines.{AreArmed, IsArmed}
-use Rattle.melt_pool.specs.Programs.{IsToldBy, ProgramStands}
+use Rattle.melt_pool.specs.Programs.{RepliesStandIn, ProgramStands}
 use Rattle.melt_pool.specs.declared.worker.Worker.{Worker}
 
 -- the program of a thread that stands
@@ -55,12 +55,12 @@ module _ {R : Type 0} (told : Bool) (script : Script) (config : Config) (disk : 
       record {
         brings = x.brings;
         program = subst (λ (u : ℕ). ProgramStands script u s) (sym x.thread) (program_of told script v t s st);
-        is_told = λ tells.
-            let i : IsTold script v t s = st.is_told (sym is_told ∙ tells) in
-            subst (λ (u : ℕ). IsToldBy script b.history u s m.values) (sym x.thread) (record {
+        replies_stand = λ tells.
+            let i : RepliesStand script v t s = st.replies_stand (sym is_told ∙ tells) in
+            subst (λ (u : ℕ). RepliesStandIn script b.history u s m.values) (sym x.thread) (record {
               registers = i.registers;
-              told = subst (λ (h : List Entry). Stands h t (take (length s.replies.items) (operations script t))
-                  s.replies.items i.registers) (sym history) i.told;
+              stands = subst (λ (h : List Entry). Stands h t (take (length s.replies.items) (operations script t))
+                  s.replies.items i.registers) (sym history) i.stands;
               in_registers = elim i.in_registers [
                 | inl over ↦ inl over
                 | inr same ↦ inr (same ∙ sym x.values)

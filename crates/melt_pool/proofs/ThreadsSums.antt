@@ -25,7 +25,7 @@ pub total_none : (n : ℕ) → total (λ t. 0) n ≡ 0
 total_none zero = refl
 total_none (suc n) = omega (arith, total_none n)
 
--- the first element, and those behind it
+-- the first element, and those after it
 sum_first : {A : Type 0} (f : A → ℕ) (x : A) (xs : List A) → sum (map f (x ∷ xs)) ≡ f x + sum (map f xs)
 sum_first f x xs = omega (arith, sum-map f (x ∷ xs), sum-map f xs, sum_by-cons f x xs)
 
@@ -53,12 +53,12 @@ sums_within F G f g (x ∷ xs) (y ∷ ys) count each =
     let F' : ℕ → ℕ = λ t. F (suc t) in
     let G' : ℕ → ℕ = λ t. G (suc t) in
     let here : F 0 + g y ≤ G 0 + f x = each 0 x y refl refl in
-    let behind : total F' (length xs) + sum (map g ys) ≤ total G' (length xs) + sum (map f xs) =
+    let after : total F' (length xs) + sum (map g ys) ≤ total G' (length xs) + sum (map f xs) =
     sums_within F' G' f g xs ys (omega (arith, count)) (λ t p q at is. each (suc t) p q at is) in
     omega (
       arith,
       here,
-      behind,
+      after,
       total_front F (length xs),
       total_front G (length xs),
       sum_first f x xs,
@@ -82,12 +82,12 @@ pub sum_grows : {A : Type 0} (f : A → ℕ) (xs ys : List A) (t : ℕ) (p q : A
 sum_grows f [] ys t p q count each at is more = absurd (let no : slice_get [] t ≡ Some p = at in cc)
 sum_grows f (x ∷ xs) [] t p q count each at is more = absurd (omega (arith, count))
 sum_grows f (x ∷ xs) (y ∷ ys) zero p q count each at is more =
-    let behind : sum (map f xs) ≤ sum (map f ys) =
+    let after : sum (map f xs) ≤ sum (map f ys) =
     sum_rises f xs ys (omega (arith, count)) (λ u a b there here. each (suc u) a b there here) in
     omega (
       arith,
       more,
-      behind,
+      after,
       ap f (same_Some x p at),
       ap f (same_Some y q is),
       sum_first f x xs,
@@ -95,9 +95,9 @@ sum_grows f (x ∷ xs) (y ∷ ys) zero p q count each at is more =
     )
 sum_grows f (x ∷ xs) (y ∷ ys) (suc t) p q count each at is more =
     let here : f x ≤ f y = each 0 x y refl refl in
-    let behind : sum (map f xs) < sum (map f ys) =
+    let after : sum (map f xs) < sum (map f ys) =
     sum_grows f xs ys t p q (omega (arith, count)) (λ u a b there here. each (suc u) a b there here) at is more in
-    omega (arith, here, behind, sum_first f x xs, sum_first f y ys)
+    omega (arith, here, after, sum_first f x xs, sum_first f y ys)
 
 -- two sums, where what no one but one has differs
 total_but : (f g : ℕ → ℕ) (t n : ℕ) → t < n → ((u : ℕ) → u ≢ t → f u ≡ g u) → total f n + g t ≡ total g n + f t

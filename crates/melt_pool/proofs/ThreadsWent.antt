@@ -26,7 +26,7 @@ use Rattle.melt_pool.specs.Epochs.{GoesFrom}
 use Rattle.melt_pool.specs.Programs.{ProgramStands}
 use Rattle.melt_pool.proofs.ThreadsSums.{entries_total, sum_grows, sum_rises, sums_within}
 
--- What a thread has done in an epoch, behind which it can not go on.
+-- What a thread has done in an epoch, after which it can not go on.
 pub record Went (every : ℕ) (script : Script) (t : ℕ) (before h : List Entry) (s after : ThreadState) : Type 0 where
   pub was : ProgramStands script t s
   pub program : ProgramStands script t after

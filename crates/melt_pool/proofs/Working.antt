@@ -1,4 +1,4 @@
--- How a thread of a run by real threads stands behind its next call.
+-- How a thread of a run by real threads stands after its next call.
 use Rattle.std.proofs.Common.{[], ◌≡◌, ℕ, suc, ◌+◌, ◌≤◌, List, ◌∷◌, ◌++◌, length, take, drop, refl, sym}
 use Rattle.std.proofs.Common.{◌∙◌, ap, subst, arith, length-append, inl, inr, true}
 use Rattle.std.specs.Prelude.{◌⊎◌, Option, Some, IfSome, replicate, vec_capacity, ◌||◌}
@@ -33,10 +33,10 @@ use Rattle.melt_safepoint.specs.declared.thread.ThreadState.{ThreadState}
 use Rattle.melt_safepoint.proofs.Threads.{drop_next, take_next}
 use Rattle.melt_safepoint.proofs.Telling.{Stands_answers, with_more}
 use Rattle.melt_pool.specs.Calling.{SameCauses}
-use Rattle.melt_pool.specs.Programs.{ProgramStands, IsToldBy, Works, dropped_for}
+use Rattle.melt_pool.specs.Programs.{ProgramStands, RepliesStandIn, Works, dropped_for}
 use Rattle.melt_pool.proofs.Growing.{legal_front, stands_more}
 
--- what is to come behind a reply
+-- what is to come after a reply
 pub program_takes : (script : Script) (t : ℕ) (s after : ThreadState) (op : Op) (reply : Reply)
     → ProgramStands script t s → s.op ≡ Some op → TakesReply s after reply → ProgramStands script t after
 program_takes script t s after op reply p next takes =
@@ -78,12 +78,12 @@ program_stays script t s mode p fits = record {
   room = p.room;
 }
 
--- what the thread was told behind a reply
+-- what the thread was told after a reply
 pub told_takes : {script : Script} {h later : List Entry} {t : ℕ} (globals : ℕ) {s after : ThreadState}
     {old new : List Value} (values : List Value) {op : Op} {reply : Reply} → ProgramStands script t s → s.op ≡ Some op
     → (IsEnded s.mode → ⊥) → TakesReply s after reply → Legal h globals → Legal later globals
-    → IsToldBy script h t s old → Answers t h old op reply later new → IsEnded after.mode ⊎ (new ≡ values)
-    → IsToldBy script later t after values
+    → RepliesStandIn script h t s old → Answers t h old op reply later new → IsEnded after.mode ⊎ (new ≡ values)
+    → RepliesStandIn script later t after values
 told_takes {script} {h} {later} {t} globals {s} {after} {old} {new} values {op} {reply} p next goes takes before legal
     told answers ends =
     let ops : List Op = operations script t in
@@ -96,14 +96,14 @@ told_takes {script} {h} {later} {t} globals {s} {after} {old} {new} values {op} 
       | inr same ↦ same
     ] in
     let stands : Stands h t (take k ops) s.replies.items old =
-    subst (λ (rs : List Value). Stands h t (take k ops) s.replies.items rs) held told.told in
+    subst (λ (rs : List Value). Stands h t (take k ops) s.replies.items rs) held told.stands in
     let answered : Stands later t (take k ops ++ op ∷ []) (s.replies.items ++ reply ∷ []) new =
     Stands_answers globals before legal stands answers in
     let taken : take k ops ++ op ∷ [] ≡ take (length after.replies.items) ops =
     sym (ap (λ (n : ℕ). take n ops) count ∙ take_next ops s.cursor.operations k op (sym p.to_come ∙ first)) in
     record {
       registers = new;
-      told = subst (λ (rs : List Reply). Stands later t (take (length after.replies.items) ops) rs new)
+      stands = subst (λ (rs : List Reply). Stands later t (take (length after.replies.items) ops) rs new)
           (sym takes.replies)
           (subst (λ (os : List Op). Stands later t os (s.replies.items ++ reply ∷ []) new) taken answered);
       in_registers = ends;
@@ -111,15 +111,16 @@ told_takes {script} {h} {later} {t} globals {s} {after} {old} {new} values {op} 
 
 -- and where it got none
 pub told_stays : {script : Script} {h later : List Entry} {t : ℕ} {s : ThreadState} (mode : Mode) {old : List Value}
-    (values : List Value) → Begins h later → own later t ≡ own h t → (IsEnded s.mode → ⊥) → IsToldBy script h t s old
-    → IsEnded mode ⊎ (old ≡ values) → IsToldBy script later t (record s { mode = mode }) values
+    (values : List Value) → Begins h later → own later t ≡ own h t → (IsEnded s.mode → ⊥)
+    → RepliesStandIn script h t s old
+    → IsEnded mode ⊎ (old ≡ values) → RepliesStandIn script later t (record s { mode = mode }) values
 told_stays {script} {h} {t} {s} mode values begins own_same goes told ends = record {
   registers = told.registers;
-  told = subst
+  stands = subst
       (λ (g : List Entry). Stands g t (take (length s.replies.items) (operations script t)) s.replies.items
       told.registers) begins.1
       (stands_more h begins.0 t (take (length s.replies.items) (operations script t)) s.replies.items told.registers
-      (ap (λ (g : List Entry). own g t) begins.1 ∙ own_same) told.told);
+      (ap (λ (g : List Entry). own g t) begins.1 ∙ own_same) told.stands);
   in_registers = elim told.in_registers [
     | inl over ↦ absurd (goes over)
     | inr held ↦ elim ends [
@@ -133,13 +134,14 @@ told_stays {script} {h} {t} {s} mode values begins own_same goes told ends = rec
 pub same_cause : (v w : View) → SameCauses v w → has_cause w ≡ has_cause v
 same_cause v w same = λ i. same.asked i || (same.spaced i || same.forwarded i)
 
--- the same with entries of others behind what was seen
+-- the same with entries of others after what was seen
 told_between : (script : Script) (h between : List Entry) (t : ℕ) (s : ThreadState) (values : List Value)
-    → own (h ++ between) t ≡ own h t → IsToldBy script h t s values → IsToldBy script (h ++ between) t s values
+    → own (h ++ between) t ≡ own h t → RepliesStandIn script h t s values → RepliesStandIn script (h ++ between) t s
+    values
 told_between script h between t s values same told = record {
   registers = told.registers;
-  told = stands_more h between t (take (length s.replies.items) (operations script t)) s.replies.items told.registers
-      same told.told;
+  stands = stands_more h between t (take (length s.replies.items) (operations script t)) s.replies.items told.registers
+      same told.stands;
   in_registers = told.in_registers;
 }
 
@@ -259,19 +261,20 @@ module _ {R : Type 0} where
           seated = dropped_seated words mode n seated;
           program = subst (λ (t : ℕ). ProgramStands script t (record s { mode = mode })) (sym thread)
               (program_stays script m.thread s mode works.program fits);
-          told = λ tells.
-              let told : IsToldBy script (view_of n).seen m.thread (record s { mode = mode })
+          replies_stand = λ tells.
+              let told : RepliesStandIn script (view_of n).seen m.thread (record s { mode = mode })
               (dropped_for mode n).values =
-              told_stays mode (dropped_for mode n).values sees.begins (seen_same sees) goes (works.told tells)
+              told_stays mode (dropped_for mode n).values sees.begins (seen_same sees) goes (works.replies_stand tells)
               (elim (dropped_or_not mode n) [
                 | inl over ↦ inl over
                 | inr held ↦ inr (sym values ∙ held)
               ]) in
               subst
-              (λ (t : ℕ). IsToldBy script (view_of (dropped_for mode n)).seen t (record s { mode = mode })
+              (λ (t : ℕ). RepliesStandIn script (view_of (dropped_for mode n)).seen t (record s { mode = mode })
               (dropped_for mode n).values) (sym thread)
               (subst
-              (λ (v : View). IsToldBy script v.seen m.thread (record s { mode = mode }) (dropped_for mode n).values)
+              (λ (v : View). RepliesStandIn script v.seen m.thread (record s { mode = mode }) (dropped_for mode
+              n).values)
               (sym view_is) told);
           dropped = dropped_values mode n;
           waits = λ cause. waits (sym (ap has_cause view_is) ∙ cause);
@@ -299,7 +302,7 @@ module _ {R : Type 0} where
           seated = dropped_seated words mode n seated;
           program = subst (λ (t : ℕ). ProgramStands script t after) (sym thread)
               (program_takes script m.thread s after op reply works.program next takes);
-          told = λ tells.
+          replies_stand = λ tells.
               let here : v.began.told ≡ true = began ∙ tells in
               let legal : Legal w.seen v.began.globals = replies.legal here in
               let answers : Answers m.thread (v.seen ++ replies.between) m.values op reply w.seen n.values =
@@ -307,16 +310,18 @@ module _ {R : Type 0} where
               (replies.answers here) in
               let before : Legal (v.seen ++ replies.between) v.began.globals =
               legal_before v.began.globals answers legal in
-              let was : IsToldBy script (v.seen ++ replies.between) m.thread s m.values =
+              let was : RepliesStandIn script (v.seen ++ replies.between) m.thread s m.values =
               told_between script v.seen replies.between m.thread s m.values
               (subst (λ (t : ℕ). own (v.seen ++ replies.between) t ≡ own v.seen t) own_thread replies.own_same)
-              (works.told tells) in
-              let told : IsToldBy script w.seen m.thread after (dropped_for mode n).values =
+              (works.replies_stand tells) in
+              let told : RepliesStandIn script w.seen m.thread after (dropped_for mode n).values =
               told_takes v.began.globals (dropped_for mode n).values works.program next goes takes before legal was
               answers (dropped_or_not mode n) in
-              subst (λ (t : ℕ). IsToldBy script (view_of (dropped_for mode n)).seen t after (dropped_for mode n).values)
+              subst (λ (t : ℕ). RepliesStandIn script (view_of (dropped_for mode n)).seen t after (dropped_for mode
+              n).values)
               (sym thread)
-              (subst (λ (x : View). IsToldBy script x.seen m.thread after (dropped_for mode n).values) (sym view_is)
+              (subst (λ (x : View). RepliesStandIn script x.seen m.thread after (dropped_for mode n).values) (sym
+              view_is)
               told);
           dropped = dropped_values mode n;
           waits = λ cause.

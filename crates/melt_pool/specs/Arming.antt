@@ -1,4 +1,4 @@
--- How mutators are made ready for an epoch one by one, and what is taken from them behind it.
+-- How mutators are made ready for an epoch one by one, and what is taken from them after it.
 use Rattle.std.specs.Prelude.{◌≡◌, ℕ, ◌+◌, ◌-◌, ◌^◌, ◌≤◌, List, length, map, sum, slice_get, ◌⊎◌}
 use Rattle.std.specs.Prelude.{Option, None, Some}
 use Rattle.melt_scion.specs.declared.registers.Registers.{Registers}

@@ -27,7 +27,7 @@ abbrev pub shape_at : List Entry → List (ℕ × ℕ) → ℕ → Option Shape
 shape_at h homes home = option_map (λ (z : model.Shape). record { refs = z.refs; nums = z.nums })
     (option_and_then (shape h) (named homes home))
 
--- the homes that lie one behind the other from this word on, each with the shape of its object, of so many at most
+-- the homes that lie one after the other from this word on, each with the shape of its object, of so many at most
 abbrev pub homes_along : List Entry → List (ℕ × ℕ) → (most from : ℕ) → List (ℕ × Shape)
 homes_along h homes zero from = []
 homes_along h homes (suc most) from =

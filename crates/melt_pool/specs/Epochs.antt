@@ -29,7 +29,8 @@ use Rattle.melt_safepoint.specs.Modes.{IsEnded, MayGo, Waits}
 use Rattle.melt_safepoint.specs.Threads.{jobs_of}
 use Rattle.melt_safepoint.specs.declared.thread.Mode.TheVariants.{Asked}
 use Rattle.melt_safepoint.specs.declared.thread.ThreadState.{ThreadState}
-use Rattle.melt_pool.specs.Programs.{DueOnly, EndsWell, IsToldBy, OwesSilent, ProgramStands, WaitsByCause, collects_in}
+use Rattle.melt_pool.specs.Programs.{DueOnly, EndsWell, RepliesStandIn, OwesSilent, ProgramStands, WaitsByCause}
+use Rattle.melt_pool.specs.Programs.{collects_in}
 use Rattle.melt_pool.specs.Workers.{Brings, MayRun, Runs}
 use Rattle.melt_pool.specs.declared.worker.Worker.{Worker}
 
@@ -79,7 +80,7 @@ pub record Rests {R : Type 0} (told : Bool) (script : Script) (h : List Entry) (
     (m : Mutator (Worker R)) : Type 0 where
   pub brings : Brings m s
   pub program : ProgramStands script m.thread s
-  pub is_told : told ≡ true → IsToldBy script h m.thread s m.values
+  pub replies_stand : told ≡ true → RepliesStandIn script h m.thread s m.values
   pub dropped : IsEnded s.mode → m.values ≡ replicate 16 Nil
 
 -- all threads of a script before an epoch
@@ -98,7 +99,7 @@ pub record GoesFrom (every : ℕ) (script : Script) (t : ℕ) (before h : List E
   pub less : jobs_of after ≤ jobs_of s
   pub entries : length (own h t) + length s.replies.items ≤ length (own before t) + length after.replies.items
 
--- A thread behind an epoch, and with its seat at the end of it: it waits or has ended, and if it had ended before, is
+-- A thread after an epoch, and with its seat at the end of it: it waits or has ended, and if it had ended before, is
 -- as it was. If it waits, it has a cause to stop, or waited for a collection before; if it has one, it waits for more
 -- than to go on; and if it was asked to stop, it found the stop word set.
 pub record Passes {R : Type 0} (faults : R → ℕ) (finish every : ℕ) (b : Began) (script : Script) (h : List Entry)
@@ -132,7 +133,7 @@ pub record HasPassed {R : Type 0} (faults : R → ℕ) (finish every : ℕ) (fir
       → (x : Passes faults finish every b script h s seated n) × (first ≡ Some k → jobs_of x.after < jobs_of s)
 
 -- The call that was made first, and alone, lacked so many words, and nothing else was done: each mutator is as it was,
--- but for its reader's counts, and no thread has an entry since. Its words, behind those that were in use, end past the
+-- but for its reader's counts, and no thread has an entry since. Its words, after those that were in use, end past the
 -- last one; no object came back from the disk; and they are those of the object that it makes, or to which the slot
 -- referred that it loads.
 pub record HasLacked {R : Type 0} (image : R → Option (List ℕ)) (faults : R → ℕ) (t need : ℕ) (b : Began)

@@ -18,21 +18,21 @@ use Rattle.melt_safepoint.specs.Threads.{jobs_of}
 use Rattle.melt_safepoint.specs.declared.thread.Mode.TheVariants as mode
 use Rattle.melt_safepoint.specs.declared.thread.ThreadState.{ThreadState}
 use Rattle.melt_pool.specs.Calling.{NeedsIn, SameCauses, WasForwarded, WasSpaced}
-use Rattle.melt_pool.specs.Programs.{GoesOn, HasEndedWell, Works, made_again}
+use Rattle.melt_pool.specs.Programs.{ThreadWentOn, HasEndedWell, Works, made_again}
 use Rattle.melt_pool.specs.Workers.{Brings, HasRun, faults_of}
 use Rattle.melt_pool.specs.declared.first.First.{First}
 use Rattle.melt_pool.specs.declared.first.First.TheVariants.{Went, Lacked, Stopped}
 use Rattle.melt_pool.specs.declared.worker.Worker.{Worker}
 
 -- The thread of a mutator lacks room.
-pub record LacksRoom {R : Type 0} (m : Mutator (Worker R)) : Type 0 where
+pub record ThreadLacksRoom {R : Type 0} (m : Mutator (Worker R)) : Type 0 where
   pub state : ThreadState
   pub brings : Brings m state
   pub lacks : state.mode ≡ mode.Lacking
 
 -- and so that of the one at this place
 abbrev pub LacksAt : {R : Type 0} → List (Mutator (Worker R)) → ℕ → Type 0
-LacksAt {R} ms t = (m : Mutator (Worker R)) × (slice_get ms t ≡ Some m) × LacksRoom m
+LacksAt {R} ms t = (m : Mutator (Worker R)) × (slice_get ms t ≡ Some m) × ThreadLacksRoom m
 
 -- Its next operation is a call.
 pub record MayCall {R : Type 0} (m : Mutator (Worker R)) : Type 0 where
@@ -44,7 +44,7 @@ pub record MayCall {R : Type 0} (m : Mutator (Worker R)) : Type 0 where
 abbrev pub MayCallAt : {R : Type 0} → List (Mutator (Worker R)) → ℕ → Type 0
 MayCallAt {R} ms t = (m : Mutator (Worker R)) × (slice_get ms t ≡ Some m) × MayCall m
 
--- whether all go on behind the answer, or why they do not
+-- whether all go on after the answer, or why they do not
 abbrev pub first_for : Result Reply Refusal → First
 first_for (Ok reply) = Went
 first_for (Err (refusal.Pause pause.Asked)) = Stopped
@@ -58,7 +58,7 @@ pub record HasGone {R : Type 0} (faults : R → ℕ) (finish every : ℕ) (scrip
     (m n : Mutator R) (s after : ThreadState) : Type 0 where
   pub works : Works script words n after
   pub ends : HasEndedWell faults words.start.began.told finish script n after
-  pub goes : GoesOn every script m n s after
+  pub goes : ThreadWentOn every script m n s after
   pub less : jobs_of after < jobs_of s
   pub goes_on : IsPaused after.mode → ⊥
 
@@ -135,7 +135,7 @@ pub record AllRunFrom {R : Type 0} (faults : R → ℕ) (finish every : ℕ) (fi
   pub each : (k : ℕ) (m n : Mutator (Worker R)) → slice_get ms k ≡ Some m → slice_get ns k ≡ Some n
       → RunsFrom faults finish every first k words m n
 
--- how the threads of an epoch have run: all, behind the call that was made first, or that call alone
+-- how the threads of an epoch have run: all, after the call that was made first, or that call alone
 abbrev pub AllCame : {R : Type 0} → (R → ℕ) → (finish every : ℕ) → Option ℕ → EpochWords
     → (ms ns : List (Mutator (Worker R))) → First → Type 0
 AllCame faults finish every first words ms ns Went = AllRunFrom faults finish every first words ms ns

@@ -41,13 +41,13 @@ SomeMachineMayRun shown first heap h registers states every told =
 
 -- and so it has ended, in each run in which it might begin
 abbrev pub MachineEnds : Shown → Option ℕ → (every : ℕ) → (old new : Heap) → (h k : List Entry)
-    → (registers after : List Registers) → (states behind : List ThreadState) → (told told_after : Bool) → Option ℕ
+    → (registers after : List Registers) → (states later : List ThreadState) → (told told_after : Bool) → Option ℕ
     → Type 0
-MachineEnds shown first every old new h k registers after states behind told told_after lacks =
+MachineEnds shown first every old new h k registers after states later told told_after lacks =
     (collector : Collector) (room : ℕ)
     → SomeMayRun shown first (machine_row old h registers states collector room every told)
     → EndsEpoch shown first (machine_row old h registers states collector room every told)
-    (machine_row new k after behind collector room every told_after) lacks
+    (machine_row new k after later collector room every told_after) lacks
 
 -- Mutators that were away were lent readers of these words, and have the registers of their threads.
 pub record AreReady {R : Type 0} (image : R → Option (List ℕ)) (faults : R → ℕ) (words : Option (List ℕ)) (v : View)

@@ -40,10 +40,11 @@ pub record ProgramStands (script : Script) (t : ℕ) (s : ThreadState) : Type 0 
 
 -- What the thread was told stands in a history: these replies to its first operations. What it holds by them are these
 -- values, until it ends.
-pub record IsToldBy (script : Script) (h : List Entry) (t : ℕ) (s : ThreadState) (values : List Value) : Type 0 where
-  pub registers : List Value
-  pub told : Stands h t (take (length s.replies.items) (operations script t)) s.replies.items registers
-  pub in_registers : IsEnded s.mode ⊎ (registers ≡ values)
+pub record RepliesStandIn (script : Script) (h : List Entry) (t : ℕ) (s : ThreadState) (values : List Value) : Type 0
+  where
+    pub registers : List Value
+    pub stands : Stands h t (take (length s.replies.items) (operations script t)) s.replies.items registers
+    pub in_registers : IsEnded s.mode ⊎ (registers ≡ values)
 
 -- A thread in an epoch. What it was told stands in what its seat has seen, where the epoch is told. One that has ended
 -- holds nothing. One whose seat has a cause to stop waits for that, and one that was asked to stop found the stop word
@@ -51,7 +52,7 @@ pub record IsToldBy (script : Script) (h : List Entry) (t : ℕ) (s : ThreadStat
 pub record Works {R : Type 0} (script : Script) (words : EpochWords) (m : Mutator R) (s : ThreadState) : Type 0 where
   pub seated : IsSeated words m
   pub program : ProgramStands script m.thread s
-  pub told : words.start.began.told ≡ true → IsToldBy script (view_of m).seen m.thread s m.values
+  pub replies_stand : words.start.began.told ≡ true → RepliesStandIn script (view_of m).seen m.thread s m.values
   pub dropped : IsEnded s.mode → m.values ≡ replicate 16 Nil
   pub waits : has_cause (view_of m) ≡ true → Waits s.mode
   pub asked : s.mode ≡ Asked → (view_of m).stopped ≡ true
@@ -88,29 +89,30 @@ abbrev pub OwesSilent : ℕ → ThreadState → ThreadState → Type 0
 OwesSilent every s after = silent_in every (length after.replies.items) + owes s.mode
     ≡ silent_in every (length s.replies.items) + owes after.mode
 
--- a silent collection is due behind so many replies
-abbrev pub IsDueBehind : ℕ → ℕ → Type 0
-IsDueBehind every count = (every ≢ 0) × (count ≢ 0) × (count % every ≡ 0)
+-- a silent collection is due after so many replies
+abbrev pub IsDueAfter : ℕ → ℕ → Type 0
+IsDueAfter every count = (every ≢ 0) × (count ≢ 0) × (count % every ≡ 0)
 
 -- a silent collection is still to come for a thread only where one was to come before, with the same replies, or where
 -- its last reply brought one
 abbrev pub DueOnly : ℕ → ThreadState → ThreadState → Type 0
 DueOnly every s after = owes_silent after.mode ≡ true
     → ((owes_silent s.mode ≡ true) × (after.replies.items ≡ s.replies.items))
-    ⊎ IsDueBehind every (length after.replies.items)
+    ⊎ IsDueAfter every (length after.replies.items)
 
 -- A thread went on in an epoch: it has the replies that it had, and perhaps more. No `collect` was answered, and no
 -- silent collection made. It has no more to do than before, and no more entries than replies since.
-pub record GoesOn {R : Type 0} (every : ℕ) (script : Script) (m n : Mutator R) (s after : ThreadState) : Type 0 where
-  pub thread : n.thread ≡ m.thread
-  pub extra : List Reply
-  pub grows : after.replies.items ≡ s.replies.items ++ extra
-  pub owes : OwesSilent every s after
-  pub due : DueOnly every s after
-  pub collects : collects_in script m.thread after ≡ collects_in script m.thread s
-  pub less : jobs_of after ≤ jobs_of s
-  pub entries : length (own (view_of n).seen m.thread) + length s.replies.items
-      ≤ length (own (view_of m).seen m.thread) + length after.replies.items
+pub record ThreadWentOn {R : Type 0} (every : ℕ) (script : Script) (m n : Mutator R) (s after : ThreadState) : Type 0
+  where
+    pub thread : n.thread ≡ m.thread
+    pub extra : List Reply
+    pub grows : after.replies.items ≡ s.replies.items ++ extra
+    pub owes : OwesSilent every s after
+    pub due : DueOnly every s after
+    pub collects : collects_in script m.thread after ≡ collects_in script m.thread s
+    pub less : jobs_of after ≤ jobs_of s
+    pub entries : length (own (view_of n).seen m.thread) + length s.replies.items
+        ≤ length (own (view_of m).seen m.thread) + length after.replies.items
 
 -- a thread that waits now, and did not wait for a collection of its own before, has a seat with a cause to stop
 abbrev pub WaitsByCause : {R : Type 0} → Mode → Mode → Mutator R → Type 0

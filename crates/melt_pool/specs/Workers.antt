@@ -5,7 +5,7 @@ use Rattle.melt_rule.specs.Seats.{EpochWords}
 use Rattle.melt_epoch.specs.declared.mutator.Mutator.{Mutator}
 use Rattle.melt_safepoint.specs.Modes.{IsEnded, MayGo}
 use Rattle.melt_safepoint.specs.declared.thread.ThreadState.{ThreadState}
-use Rattle.melt_pool.specs.Programs.{EndsWell, GoesOn, WaitsByCause, Works, made_again}
+use Rattle.melt_pool.specs.Programs.{EndsWell, ThreadWentOn, WaitsByCause, Works, made_again}
 use Rattle.melt_pool.specs.declared.worker.Worker.{Worker}
 
 -- the image that a worker's reader tells, and its count of faults
@@ -28,7 +28,7 @@ pub record MayRun {R : Type 0} (script : Script) (words : EpochWords) (m : Mutat
   pub works : Works script words m (made_again state)
 
 -- A thread ran in an epoch until it waits or has ended. One that had ended before is as it was. A silent collection
--- came due behind each reply that brings one. If it waits, it has a cause to stop, or waited for a collection before.
+-- came due after each reply that brings one. If it waits, it has a cause to stop, or waited for a collection before.
 pub record HasRun {R : Type 0} (faults : R → ℕ) (finish every : ℕ) (script : Script) (words : EpochWords)
     (s : ThreadState) (m n : Mutator (Worker R)) : Type 0 where
   pub after : ThreadState
@@ -39,7 +39,7 @@ pub record HasRun {R : Type 0} (faults : R → ℕ) (finish every : ℕ) (script
   pub kept : IsEnded s.mode → n ≡ m
   pub ends : (IsEnded s.mode → ⊥) → EndsWell words.start.began.told finish script n.thread (length after.replies.items)
       (faults brings.worker.reader) after.mode
-  pub goes : GoesOn every script m n s after
+  pub goes : ThreadWentOn every script m n s after
   pub caused : WaitsByCause s.mode after.mode n
 
 -- so for each script and state with which it was brought along; and the mutator is that of its thread still

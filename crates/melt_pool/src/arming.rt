@@ -1,4 +1,4 @@
-//! What the mutators of a run take into an epoch, and what is taken from them behind it.
+//! What the mutators of a run take into an epoch, and what is taken from them after it.
 //!
 //! Between two epochs a run keeps readers, operations and registers apart from its mutators. An epoch is run over one
 //! slice of mutators, so each of them has all that its thread needs for that time.
@@ -99,7 +99,7 @@ pub(crate) fn hand_out<'a, R: Drop>(
     }
 }
 
-/// Takes operations and registers from each mutator behind an epoch, and gives its reader back.
+/// Takes operations and registers from each mutator after an epoch, and gives its reader back.
 pub(crate) fn take_back<'a, D: StaleDisk>(
     space: &mut StaleSpace<'_, D>,
     mutators: &mut [Mutator<Worker<'a, D::Reader>>],

@@ -47,8 +47,8 @@ fn run_all<X: Threads + Sync, R: RecordReader + Send + Drop, G: Gate + Sync>(
     thread::for_each_mut(rt, mutators, threads, &run);
 }
 
-/// Makes the call of one thread before any other runs, and runs all behind it, if it goes on.
-fn run_behind<X: Threads + Sync, R: RecordReader + Send + Drop, G: Gate + Sync>(
+/// Makes the call of one thread before any other runs, and runs all after it, if it goes on.
+fn run_after<X: Threads + Sync, R: RecordReader + Send + Drop, G: Gate + Sync>(
     rt: &X,
     epoch: &Epoch,
     mutators: &mut [Mutator<Worker<'_, R>>],
@@ -69,7 +69,7 @@ fn run_behind<X: Threads + Sync, R: RecordReader + Send + Drop, G: Gate + Sync>(
     came
 }
 
-/// Runs all threads of an epoch: behind the call of the first, if there is one.
+/// Runs all threads of an epoch: after the call of the first, if there is one.
 fn run_from<X: Threads + Sync, R: RecordReader + Send + Drop, G: Gate + Sync>(
     rt: &X,
     epoch: &Epoch,
@@ -85,7 +85,7 @@ fn run_from<X: Threads + Sync, R: RecordReader + Send + Drop, G: Gate + Sync>(
     ensures came { AllCame R.faults epoch.now.end every first epoch.now.words mutators.old mutators.new result }
 {
     match first {
-        Some(t) => run_behind(rt, epoch, mutators, every, t, gate),
+        Some(t) => run_after(rt, epoch, mutators, every, t, gate),
         None => {
             run_all(rt, epoch, mutators, every, gate);
             First::Went
@@ -94,7 +94,7 @@ fn run_from<X: Threads + Sync, R: RecordReader + Send + Drop, G: Gate + Sync>(
 }
 
 /// Lets the threads of a run go through an epoch on a heap and the history that led to it, and answers both as they are
-/// behind it, and how many words the call of the first lacked, if it did. Each mutator has its worker, with a reader of
+/// after it, and how many words the call of the first lacked, if it did. Each mutator has its worker, with a reader of
 /// the disk as it is now. With what the epoch begins is given by a value that takes no bytes.
 pub(crate) fn run_epoch<X: Threads + Sync, R: RecordReader + Send + Drop, G: Gate + Sync>(
     rt: &X,

@@ -1,6 +1,6 @@
 //! The call that is made first in an epoch, before any other thread runs.
 //!
-//! A thread that lacked room is to have it behind a collection. Its call is made again while no other thread takes the
+//! A thread that lacked room is to have it after a collection. Its call is made again while no other thread takes the
 //! words: so it is answered if there are as many as it needs, and if not, the run knows how many are missing.
 ghost use Rattle.std.specs.Prelude.{◌≡◌, ◌≢◌, Some};
 ghost use Rattle.melt_model.specs.declared.operations.Op.TheVariants.{Collect};

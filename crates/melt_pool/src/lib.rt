@@ -18,6 +18,6 @@ mod run;
 mod worker;
 
 pub use machine::Parallel;
-pub use rest::{Paused, go_on};
+pub use rest::{Paused, resume};
 pub use run::run_threads;
 pub use worker::Worker;

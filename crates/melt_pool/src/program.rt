@@ -9,7 +9,7 @@ ghost use Rattle.melt_epoch.specs.Calls.{IsAsked};
 ghost use Rattle.melt_epoch.specs.Ends.{view_of};
 ghost use Rattle.melt_epoch.specs.Mutators.{HasReader, IsSeated};
 ghost use Rattle.melt_safepoint.specs.Modes.{IsEnded, MayGo, Waits};
-ghost use Rattle.melt_pool.specs.Programs.{DueOnly, GoesOn, HasEndedWell, OwesSilent, Took, WaitsByCause, Works};
+ghost use Rattle.melt_pool.specs.Programs.{DueOnly, ThreadWentOn, HasEndedWell, OwesSilent, Took, WaitsByCause, Works};
 ghost use Rattle.melt_pool.specs.Programs.{dropped_for, made_again, turns_left};
 
 use crate::call::make_call;
@@ -87,7 +87,7 @@ fn make_next<R: RecordReader>(
     ensures thread { m.new.thread ≡ m.old.thread }
     ensures nearer { turns_left state.new < turns_left state.old }
     ensures goes_on { (script : Script) → Works script epoch.now.words m.old state.old
-        → GoesOn every script m.old m.new state.old state.new }
+        → ThreadWentOn every script m.old m.new state.old state.new }
     ensures caused { Waits state.new.mode → has_cause (view_of m.new) ≡ true }
 {
     match (state.mode, state.op) {
@@ -135,7 +135,7 @@ pub(crate) fn run_program<R: RecordReader, G: Gate>(
     ensures thread { m.new.thread ≡ m.old.thread }
     ensures waits { MayGo state.new.mode → ⊥ }
     ensures goes_on { (script : Script) → Works script epoch.now.words m.old (made_again state.old)
-        → GoesOn every script m.old m.new state.old state.new }
+        → ThreadWentOn every script m.old m.new state.old state.new }
     ensures caused { WaitsByCause state.old.mode state.new.mode m.new }
 {
     let mut is_announced = make_again(state);

@@ -48,7 +48,7 @@ fn start_from<Q: RecordReader>(paused: &Paused, mutators: &[Mutator<Q>]) -> Ghos
 /// Lets the threads of a run that is paused go through an epoch, each as far as it can, and pauses the run again. A
 /// thread that lacks room may be named as the first: its call is made before any other thread runs. Where that lacks
 /// room again, no thread runs, and the words that it needs are answered.
-pub fn go_on<X: Threads + Sync, R: RecordReader + Send + Drop, G: Gate + Sync>(
+pub fn resume<X: Threads + Sync, R: RecordReader + Send + Drop, G: Gate + Sync>(
     rt: &X,
     alloc: Global,
     paused: Paused,

@@ -24,7 +24,7 @@ ghost use Rattle.melt_pool.specs.Parts.{AreAway, IsNameless, parts_view};
 use crate::arming::{hand_out, lend_all, take_back};
 use crate::collect::{collect_parallel, left_of};
 use crate::machine::{Parallel, new_parallel};
-use crate::rest::{Paused, go_on};
+use crate::rest::{Paused, resume};
 use crate::worker::Worker;
 use melt_disk::StaleSpace;
 use melt_epoch::Mutator;
@@ -39,7 +39,7 @@ use std::alloc::Global;
 use std::thread::Threads;
 
 /// Lets threads go through an epoch whose mutators have their readers and registers. They get their operations for it,
-/// and behind it operations, registers and readers are taken from them again.
+/// and after it operations, registers and readers are taken from them again.
 fn go_through<'a, X: Threads + Sync, D: StaleDisk, G: Gate + Sync>(
     rt: &X,
     gate: &G,
@@ -74,7 +74,7 @@ fn go_through<'a, X: Threads + Sync, D: StaleDisk, G: Gate + Sync>(
     ensures same_disk { space.new.disk.ghost_name ≡ space.old.disk.ghost_name }
 {
     hand_out(states, mutators);
-    let (paused, lacks) = go_on(rt, alloc, paused, mutators, every, first, gate)?;
+    let (paused, lacks) = resume(rt, alloc, paused, mutators, every, first, gate)?;
     take_back(space, mutators, states, registers);
     Ok((paused, lacks))
 }

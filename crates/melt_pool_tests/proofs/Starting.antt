@@ -17,8 +17,8 @@ use Rattle.melt_safepoint.specs.declared.thread.Mode.{Mode}
 use Rattle.melt_safepoint.specs.declared.thread.Mode.TheVariants.{Running, Lacking}
 use Rattle.melt_safepoint.specs.declared.thread.ThreadState.{ThreadState}
 use Rattle.melt_pool.specs.Epochs.{Rests}
-use Rattle.melt_pool.specs.Firsts.{LacksRoom}
-use Rattle.melt_pool.specs.Programs.{IsToldBy, ProgramStands}
+use Rattle.melt_pool.specs.Firsts.{ThreadLacksRoom}
+use Rattle.melt_pool.specs.Programs.{RepliesStandIn, ProgramStands}
 use Rattle.melt_pool.specs.declared.worker.Worker.{Worker}
 use Rattle.melt_pool.proofs.Running.{brings_one}
 use Rattle.melt_pool.proofs.Working.{program_stays}
@@ -52,9 +52,9 @@ pub new_rests : {R : Type 0} (script : Script) (s : ThreadState) (m : Mutator (W
 new_rests script s m worker new there state values = record {
   brings = record { worker = worker; there = there; state = state };
   program = new_program script m.thread s new;
-  is_told = λ tells. record {
+  replies_stand = λ tells. record {
     registers = replicate 16 Nil;
-    told = subst
+    stands = subst
         (λ (rs : List Reply). Stands [] m.thread (take (length rs) (operations script m.thread)) rs (replicate 16 Nil))
         (sym new.replies) (Stands_start m.thread);
     in_registers = inr (sym values);
@@ -108,14 +108,14 @@ module _ {R : Type 0} (m n : Mutator (Worker R)) (worker : Worker R) (state : Th
       let same : new.0 ≡ state = brings_one m new.0 state worker was.brings there had in
       let program : ProgramStands script m.thread state =
       subst (ProgramStands script m.thread) same was.program in
-      let told : IsToldBy script [] m.thread state m.values =
-      subst (λ (s : ThreadState). IsToldBy script [] m.thread s m.values) same (was.is_told refl) in
+      let told : RepliesStandIn script [] m.thread state m.values =
+      subst (λ (s : ThreadState). RepliesStandIn script [] m.thread s m.values) same (was.replies_stand refl) in
       let here : Rests true script [] refused full = record {
         brings = record { worker = record worker { state = Some refused }; there = refl; state = refl };
         program = program_stays script m.thread state Lacking program fits;
-        is_told = λ tells. record {
+        replies_stand = λ tells. record {
           registers = told.registers;
-          told = told.told;
+          stands = told.stands;
           in_registers = elim told.in_registers [
             | inl over ↦ absurd (subst IsEnded runs over)
             | inr held ↦ inr held
@@ -125,7 +125,7 @@ module _ {R : Type 0} (m n : Mutator (Worker R)) (worker : Worker R) (state : Th
       } in
       (refused, subst (Rests true script [] refused) (sym is) here)
 
-  pub refused_lacks : LacksRoom n
+  pub refused_lacks : ThreadLacksRoom n
   refused_lacks = record {
     state = refused;
     brings = record {

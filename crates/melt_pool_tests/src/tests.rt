@@ -2,13 +2,13 @@ ghost use Rattle.std.specs.Prelude.{◌≡◌, ◌<◌, false, length, map, IfSo
 ghost use Rattle.melt_scion.specs.Heaps.{IsNewHeap};
 ghost use Rattle.melt_epoch.specs.Tests.{AllMayStart, MayStart};
 ghost use Rattle.melt_trace.specs.Script.{Script};
-ghost use Rattle.melt_pool.specs.Firsts.{LacksAt, LacksRoom};
+ghost use Rattle.melt_pool.specs.Firsts.{LacksAt, ThreadLacksRoom};
 ghost use Rattle.melt_pool_tests.specs.Tests.{AllNew, IsNew};
 
 use melt_epoch::Mutator;
 use melt_io::{Failed, Gate, RecordReader};
 use melt_model::{Ghost, Op, Reply, ThreadEnd};
-use melt_pool::{Paused, Worker, go_on};
+use melt_pool::{Paused, Worker, resume};
 use melt_rule::Pass;
 use melt_safepoint::{Mode, ThreadState};
 use melt_same::same;
@@ -118,7 +118,7 @@ fn refuse<R: Abort>(rt: &R, mutator: &mut Mutator<Worker<'_, NoDisk>>)
     ensures thread { mutator.new.thread ≡ mutator.old.thread }
     ensures may_start { MayStart (λ _. Some []) mutator.old → MayStart (λ _. Some []) mutator.new }
     ensures new { (script : Script) → IsNew script mutator.old → IsNew script mutator.new }
-    ensures lacks { LacksRoom mutator.new }
+    ensures lacks { ThreadLacksRoom mutator.new }
 {
     let Some(mut worker) = mutator.take_reader() else {
         panic!(rt; "no worker");
@@ -168,7 +168,7 @@ fn first_refused<'a, R: Abort>(
     [first, new_mutator(rt, alloc, trace, 1)]
 }
 
-/// Lets the threads go through an epoch on a new heap with one global, and answers the words in use behind it, and how
+/// Lets the threads go through an epoch on a new heap with one global, and answers the words in use after it, and how
 /// many the first call lacked.
 fn run_on<R: Abort + Threads + Sync, G: Gate + Sync>(
     rt: &R,
@@ -191,7 +191,7 @@ fn run_on<R: Abort + Threads + Sync, G: Gate + Sync>(
         end: 1,
         told: Ghost::pick(&()),
     };
-    let Ok((after, lacked)) = go_on(rt, alloc, paused, mutators, every, first, gate) else {
+    let Ok((after, lacked)) = resume(rt, alloc, paused, mutators, every, first, gate) else {
         panic!(rt; "no memory");
     };
     (after.heap.space.used(), lacked)
@@ -218,7 +218,7 @@ fn expect(
     same(state.mode, mode)
 }
 
-/// Runs two threads through an epoch, and compares what they come to. Answers the words in use behind it, and how many
+/// Runs two threads through an epoch, and compares what they come to. Answers the words in use after it, and how many
 /// the first call lacked. The gate was told of the call that is made first.
 fn expect_epoch<R: Abort + Threads + Sync>(
     rt: &R,
@@ -246,7 +246,7 @@ fn expect_epoch<R: Abort + Threads + Sync>(
 }
 
 /// Runs the two threads of a trace of one global through an epoch, and compares what they come to. Answers the words in
-/// use behind it.
+/// use after it.
 fn expect_both<R: Abort + Threads + Sync>(
     rt: &R,
     alloc: Global,
@@ -297,7 +297,7 @@ fn two_threads_go_through_an_epoch(rt: HostRuntime) -> Result<(), Fail> {
 }
 
 #[test]
-fn a_silent_collection_is_due_behind_every_second_reply(rt: HostRuntime) -> Result<(), Fail> {
+fn a_silent_collection_is_due_after_every_second_reply(rt: HostRuntime) -> Result<(), Fail> {
     let text = b"melt 1\nthreads 2\nglobals 1\n\
         thread 0\nnew 0 0 1\nput 0 0 7\nget 0 0\ndone\nthread 1\ndone\n";
     let first = Wanted {
@@ -315,7 +315,7 @@ fn a_silent_collection_is_due_behind_every_second_reply(rt: HostRuntime) -> Resu
 }
 
 #[test]
-fn all_go_on_behind_a_first_call_that_is_answered(rt: HostRuntime) -> Result<(), Fail> {
+fn all_go_on_after_a_first_call_that_is_answered(rt: HostRuntime) -> Result<(), Fail> {
     let text = b"melt 1\nthreads 2\nglobals 1\n\
         thread 0\nnew 0 0 1\nget 0 0\ndone\nthread 1\nnew 0 1 0\ndone\n";
     let first = Wanted {
@@ -333,7 +333,7 @@ fn all_go_on_behind_a_first_call_that_is_answered(rt: HostRuntime) -> Result<(),
 }
 
 #[test]
-fn no_other_runs_behind_a_first_call_that_lacks_words(rt: HostRuntime) -> Result<(), Fail> {
+fn no_other_runs_after_a_first_call_that_lacks_words(rt: HostRuntime) -> Result<(), Fail> {
     let text = b"melt 1\nthreads 2\nglobals 1\n\
         thread 0\nnew 0 40 40\ndone\nthread 1\nnew 0 1 0\ndone\n";
     let first = Wanted {

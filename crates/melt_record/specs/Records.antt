@@ -77,7 +77,7 @@ pub record IsSlotDamage (home end count : ℕ) (words : List ℕ) (damage : Dama
   pub at : damage.at ≡ 2 + slot
   pub word : damage.word ≡ slice_index words slot
 
--- a reader of the words finds a Body of the shape, and its slots behind the head
+-- a reader of the words finds a Body of the shape, and its slots after the head
 pub record BodyIsRead (home end : ℕ) (shape : Shape) (words : List ℕ) : Type 0 where
   pub head : IsHead home end (slice_index words 0) (slice_index words 1) (record { shape = shape; kind = Body })
   pub slots : AreSlots end shape.refs (drop 2 words)

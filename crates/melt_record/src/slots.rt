@@ -1,4 +1,4 @@
-//! The words of a record behind its head: the reference slots, and then the number words.
+//! The words of a record after its head: the reference slots, and then the number words.
 ghost use Rattle.std.specs.Prelude.{◌≡◌, ◌+◌, ◌↔◌, IsTrue, OnOk, IfErr, length};
 ghost use Rattle.melt_word.specs.Words.{IsShape};
 ghost use Rattle.melt_record.specs.Records.{AreSlots, IsSlotDamage, IsSlotWord};
@@ -18,7 +18,7 @@ fn is_slot_word(end: u32, word: u64) -> bool
     }
 }
 
-/// Tests the words of a Body behind its head. `end` is the first word of the disk past all homes.
+/// Tests the words of a Body after its head. `end` is the first word of the disk past all homes.
 /// Damage is at the first reference slot that is neither null nor a reference to a home before `end`;
 /// a number word may be any word.
 pub fn decode_rest(home: u32, end: u32, shape: Shape, words: &[u64]) -> Result<(), Damaged>

@@ -33,7 +33,7 @@ use Rattle.melt_rule.specs.Plays.{PollPlay, HeadPlay, LookPlay, GlobalLookPlay, 
 use Rattle.melt_rule.specs.Plays.{NumberStorePlay, FindsHeader, FindsReference}
 use Rattle.melt_rule.specs.Rule.{Has, Kept, Rule, has_cause, is_lacking, is_reading}
 use Rattle.melt_rule.specs.Shown.{shows, global_place, word_place, Knows}
-use Rattle.melt_rule.specs.Tells.{FitsIn, view_behind, Names, Ends}
+use Rattle.melt_rule.specs.Tells.{FitsIn, view_after, Names, Ends}
 use Rattle.melt_rule.specs.declared.began.Began.{Began}
 use Rattle.melt_rule.specs.declared.began.Start.{Start}
 use Rattle.melt_rule.specs.declared.view.Doing.TheVariants.{Polled, Headed}
@@ -63,14 +63,14 @@ polls {start} {slots} id {me} live goes_on left =
     (λ words views kept at alive small. elim kept.stop.bit [
       | inl zero ↦
           let r = reaches start words views kept id me.0 at alive goes_on (Some Polled) tt refl (inl refl) left in
-          let w : View = view_behind me.0 kept.history me.0.known (Some Polled) in (
+          let w : View = view_after me.0 kept.history me.0.known (Some Polled) in (
             w,
             loaded kept 0 r.0,
             λ inside. ((refl, inside), inl (zero, (r.1, no_cause start words views kept id me.0 at goes_on zero))),
           )
       | inr one ↦
           let r = stops start words views kept id me.0 at alive goes_on one left in
-          let w : View = record (view_behind me.0 kept.history me.0.known None) { stopped = true } in (
+          let w : View = record (view_after me.0 kept.history me.0.known None) { stopped = true } in (
             w,
             loaded kept 0 r.0,
             λ inside. ((refl, inside), inr (one, r.1)),
@@ -100,7 +100,7 @@ heads {start} {slots} id {i} {a} {n} {me} live polled has at_i =
     record { number = n; named = named; header = header; starts = object.1.starts; shape_is = refl } in
     let r = reaches start words views kept id me.0 at alive (ap is_lacking polled) (Some (Headed a header.shape))
     there refl (inl refl) (ap is_reading polled) in
-    let w : View = view_behind me.0 kept.history me.0.known (Some (Headed a header.shape)) in
+    let w : View = view_after me.0 kept.history me.0.known (Some (Headed a header.shape)) in
     let word : found ≡ header_word header =
     ap (λ (k : ℕ). get_or words k 0) at_i
     ∙ (ap (λ (b : Began). get_or words (word_place b a) 0) stood.began
@@ -151,7 +151,7 @@ module _ (start : Start) (words : List ℕ) (views : List View) (kept : Kept sta
         kept.holds.formed.slots a n i o.header named o.starts (omega arith),
       )
 
-  -- the step behind a look at a place
+  -- the step after a look at a place
   look_step : is_lacking v.doing ≡ false → is_reading v.doing ≡ false → (i : ℕ) (place : Place) (at_slot : Slot)
       → IsPlace kept.maps now place → SlotAt kept.maps place at_slot
       → IsReferenceWord kept.maps now (word_in now place) → get_or words i 0 ≡ word_in now place
@@ -225,7 +225,7 @@ global_looks {start} {slots} id {g} {me} live polled below =
       ),
     ))
 
--- the word of the space behind a place of it
+-- the word of the space after a place of it
 module _ (start : Start) (words : List ℕ) (views : List View) (kept : Kept start words views) (id : ℕ) (v : View)
     (at : get_elem? views id ≡ some v) (live : 0 < v.parts) where
   space_word : (i address : ℕ) → 1 ≤ address → i ≡ word_place v.began address

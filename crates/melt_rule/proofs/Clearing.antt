@@ -35,7 +35,7 @@ use Rattle.melt_rule.specs.Barriers.{stale_mask, ClearPlay}
 use Rattle.melt_rule.specs.Coming.{ClearStubPlay}
 use Rattle.melt_rule.specs.Rule.{SeatStands, Kept, Rule, is_lacking, is_reading}
 use Rattle.melt_rule.specs.Shown.{shows, word_place, Knows, core_stage, staged}
-use Rattle.melt_rule.specs.Tells.{IsWithin, view_behind, Reaches}
+use Rattle.melt_rule.specs.Tells.{IsWithin, view_after, Reaches}
 use Rattle.melt_rule.specs.declared.began.Began.{Began}
 use Rattle.melt_rule.specs.declared.began.Start.{Start}
 use Rattle.melt_rule.specs.declared.view.Doing.{Doing}
@@ -92,9 +92,9 @@ module _ (start : Start) (words after : List ℕ) (views : List View) (kept : Ke
   stood : SeatStands start.began kept.maps old kept.history v
   stood = kept.seats id v at live
 
-  -- the view behind it
+  -- the view after it
   abbrev pub cleared : View
-  cleared = view_behind v kept.history v.known (Some (Cleared place found target))
+  cleared = view_after v kept.history v.known (Some (Cleared place found target))
 
   pub clearing : (header : Header) → HeaderAt old target header
       → WordChanges old new target (header_word (record { shape = header.shape; stale = false }))
@@ -167,7 +167,7 @@ clears_known {start} slots id {i} {target} place found me tells live goes_on at_
     only header
     object.1.starts
     (subst (λ (y : ℕ). WordChanges now (shows start.began (set words i x)) target y) bare changed) in
-    let w : View = view_behind me.0 kept.history me.0.known (Some (Cleared place found target)) in
+    let w : View = view_after me.0 kept.history me.0.known (Some (Cleared place found target)) in
     (w, r.0, λ inside. tell (get_or words i 0) w inside r.1))
 
 pub clears_at : {start : Start} {slots : ℕ} (id : ℕ) {i target : ℕ} {place : Place} {found : Ref} {me : Me ℕ View}

@@ -51,7 +51,7 @@ use Rattle.melt_rule.specs.Plays.{Stays}
 use Rattle.melt_rule.specs.Rule.{Has, SeatStands, Kept, Rule, filled_count, is_lacking, is_reading}
 use Rattle.melt_rule.specs.Seats.{EpochWords, IsSeat, knows_of}
 use Rattle.melt_rule.specs.Shown.{shows, owned, forward_place, Knows, staged}
-use Rattle.melt_rule.specs.Tells.{CopyFits, IsWithin, view_behind}
+use Rattle.melt_rule.specs.Tells.{CopyFits, IsWithin, view_after}
 use Rattle.melt_rule.specs.declared.began.Began.{Began}
 use Rattle.melt_rule.specs.declared.began.Pair.{Pair}
 use Rattle.melt_rule.specs.declared.began.Start.{Start}
@@ -86,7 +86,7 @@ module _ (start : Start) (words : List ℕ) (views : List View) (kept : Kept sta
   place_within : place < start.began.forwards
   place_within = probe_within a.search.home start.began.forwards a.search.tried knows.1
 
-  -- the search may read the word, and goes on behind it with the copy at hand
+  -- the search may read the word, and goes on after it with the copy at hand
   searching : Probing start words views kept id v at live (ap is_lacking copied) (ap is_reading copied) a.search
       (Copied a)
       (Retrying (retried a))
@@ -150,9 +150,9 @@ module _ (start : Start) (words : List ℕ) (views : List View) (kept : Kept sta
     abbrev doing : Doing
     doing = Cleared a.search.place (Disk a.search.home) a.address
 
-    -- the view behind it
+    -- the view after it
     abbrev pub won : View
-    won = record (view_behind v kept.history known (Some doing)) { won = v.won + 1 }
+    won = record (view_after v kept.history known (Some doing)) { won = v.won + 1 }
 
     appeared : NameAppears kept.maps maps a.address n
     appeared = appears start words views kept id v at live a.address n
@@ -334,7 +334,7 @@ commits_at {start} {slots} id {i} {word} {a} {me} live copied placed is =
           )
     ])
 
--- the seat behind it
+-- the seat after it
 pub seated_committed : {words : EpochWords} {old new : Seat ℕ View} (a : Activation) (sent : Option (ℕ × ℕ))
     → IsSeat words old → new.table_id ≡ old.table_id → Stays old.me new.me
     → Commits (knows_of old) (knows_of new) a sent → IsSeat words new

@@ -42,7 +42,7 @@ use Rattle.melt_rule.specs.Plays.{Stays}
 use Rattle.melt_rule.specs.Rule.{Begins, SeatStands, Kept, Rule, has_cause, is_lacking, is_reading}
 use Rattle.melt_rule.specs.Seats.{EpochWords, IsSeat, knows_of}
 use Rattle.melt_rule.specs.Shown.{base_at, shows, Knows, owned, staged, free_place, word_place}
-use Rattle.melt_rule.specs.Tells.{IsWithin, view_behind, Reaches}
+use Rattle.melt_rule.specs.Tells.{IsWithin, view_after, Reaches}
 use Rattle.melt_rule.specs.declared.began.Began.{Began}
 use Rattle.melt_rule.specs.declared.began.Start.{Start}
 use Rattle.melt_rule.specs.declared.view.Doing.{Doing}
@@ -68,14 +68,14 @@ module _ (start : Start) (words : List ℕ) (views : List View) (kept : Kept sta
   abbrev first_free : ℕ
   first_free = free start words views kept id v at live
 
-  -- the words behind a claim of so many, and the view
-  abbrev behind_claim : ℕ → List ℕ
-  behind_claim = claimed_words start words views kept id v at live
+  -- the words after a claim of so many, and the view
+  abbrev after_claim : ℕ → List ℕ
+  after_claim = claimed_words start words views kept id v at live
 
   abbrev claim_view : List ℕ → ℕ → ℕ → Bool → Doing → View
   claim_view = claimed start words views kept id v at live
 
-  -- the Body at the home was read, of this shape and with these words behind its head
+  -- the Body at the home was read, of this shape and with these words after its head
   abbrev Reads : Search → Shape → List ℕ → Type 0
   Reads search z rest = HasBody start.began.told (base_at start.began) search.home z rest
 
@@ -94,11 +94,11 @@ module _ (start : Start) (words : List ℕ) (views : List View) (kept : Kept sta
   misses : (search : Search) → v.doing ≡ Some (Missed search) → Misses start.began.told kept.maps old search
   misses search is = (subst (Knows start.began.told kept.maps old v.rest) is stood.doing).0
 
-  -- what a call knows behind the claim of so many words
+  -- what a call knows after the claim of so many words
   missed_on : (search : Search) (cost : ℕ) → v.doing ≡ Some (Missed search)
-      → Misses start.began.told kept.maps (shows start.began (behind_claim cost)) search
+      → Misses start.began.told kept.maps (shows start.began (after_claim cost)) search
   missed_on search cost is =
-      misses_stays kept.maps kept.maps old (shows start.began (behind_claim cost)) 0 kept.holds.formed
+      misses_stays kept.maps kept.maps old (shows start.began (after_claim cost)) 0 kept.holds.formed
       (claim_evolves start words views kept id v at live cost)
       start.began.told
       search
@@ -114,11 +114,11 @@ module _ (start : Start) (words : List ℕ) (views : List View) (kept : Kept sta
       → Reads search z rest → first_free + cost_of z ≤ start.began.size + 1
       → let doing : Doing = Copying (record { search = search; address = first_free; shape = z }) 0 in
       let w : View = claim_view rest (cost_of z) v.over v.spaced doing in
-      IsStep start words (behind_claim (cost_of z)) views kept id v at live w
+      IsStep start words (after_claim (cost_of z)) views kept id v at live w
       × ClaimsCopy v w search z rest first_free
   copying search z rest is no_cause body fits =
       let doing : Doing = Copying (record { search = search; address = first_free; shape = z }) 0 in
-      let after : List ℕ = behind_claim (cost_of z) in
+      let after : List ℕ = after_claim (cost_of z) in
       let w : View = claim_view rest (cost_of z) v.over v.spaced doing in
       let step = moved start words views kept id v at live rest (cost_of z) v.over v.spaced doing no_cause
       (claim_fits start words views kept id v at live rest z doing fits refl
@@ -142,11 +142,11 @@ module _ (start : Start) (words : List ℕ) (views : List View) (kept : Kept sta
   pub lacking_copy : (search : Search) (z : Shape) (rest : List ℕ) → v.doing ≡ Some (Missed search)
       → has_cause v ≡ false → Reads search z rest → start.began.size + 1 < first_free + cost_of z
       → let w : View = claim_view v.rest (cost_of z) (v.over + 1) true (LackingCopy search z) in
-      IsStep start words (behind_claim (cost_of z)) views kept id v at live w
+      IsStep start words (after_claim (cost_of z)) views kept id v at live w
       × LacksCopy v w search z
   lacking_copy search z rest is no_cause body past =
       let doing : Doing = LackingCopy search z in
-      let after : List ℕ = behind_claim (cost_of z) in
+      let after : List ℕ = after_claim (cost_of z) in
       let w : View = claim_view v.rest (cost_of z) (v.over + 1) true doing in
       let refs : z.refs ≤ 62 = body.head.small.refs in
       let nums : z.nums ≤ 62 = body.head.small.nums in
@@ -224,10 +224,10 @@ module _ (start : Start) (words : List ℕ) (views : List View) (kept : Kept sta
 
     storing : (doing : Option Doing) → owned doing ≡ mine
         → Knows start.began.told kept.maps new v.rest doing → look_of (staged doing) ≡ Some (home_look a.search)
-        → let w : View = view_behind v kept.history v.known doing in
+        → let w : View = view_after v kept.history v.known doing in
         IsStep start words after views kept id v at live w × Reaches v w doing
     storing doing owns knows look =
-        let w : View = view_behind v kept.history v.known doing in
+        let w : View = view_after v kept.history v.known doing in
         let step =
         leaves_same start words after views kept id v at live (ap is_lacking is)
         (only_word start words views kept id v at live place word inside.0 inside.1)
@@ -248,7 +248,7 @@ module _ (start : Start) (words : List ℕ) (views : List View) (kept : Kept sta
   pub filling_copy : (a : Activation) (k word : ℕ) → v.doing ≡ Some (Copying a k) → k + 1 < cost_of a.shape
       → word ≡ copy_word a.search.home a.shape v.rest (k + 1)
       → let doing : Option Doing = Some (Copying a (k + 1)) in
-      let w : View = view_behind v kept.history v.known doing in
+      let w : View = view_after v kept.history v.known doing in
       IsStep start words (stored_at (a.address + 1 + k) word) views kept id v at live w × Reaches v w doing
   filling_copy a k word is few stored =
       let place : ℕ = a.address + 1 + k in
@@ -264,7 +264,7 @@ module _ (start : Start) (words : List ℕ) (views : List View) (kept : Kept sta
   -- the copy is whole once its header is stored
   pub heading_copy : (a : Activation) (k : ℕ) → v.doing ≡ Some (Copying a k) → k + 1 ≡ cost_of a.shape
       → let doing : Option Doing = Some (Copied a) in
-      let w : View = view_behind v kept.history v.known doing in
+      let w : View = view_after v kept.history v.known doing in
       let word : ℕ = header_word (record { shape = a.shape; stale = false }) in
       IsStep start words (stored_at a.address word) views kept id v at live w × Reaches v w doing
   heading_copy a k is all =
@@ -361,7 +361,7 @@ fills_copy_at {start} {slots} id {i} {k} {word} {a} {me} live is few stored plac
     let place : ℕ = a.address + 1 + k in
     let there : i ≡ word_place start.began place =
     placed ∙ ap (λ (b : Began). word_place b place) (kept.seats id me.0 at alive).began in
-    let w : View = view_behind me.0 kept.history me.0.known (Some (Copying a (k + 1))) in
+    let w : View = view_after me.0 kept.history me.0.known (Some (Copying a (k + 1))) in
     let r = filling_copy start words views kept id me.0 at alive a k word is few stored in (
       w,
       subst (λ (j : ℕ). IsStep start words (set words j word) views kept id me.0 at alive w) (sym there) r.0,
@@ -383,7 +383,7 @@ heads_copy_at {start} {slots} id {i} {k} {word} {a} {me} live is all placed is_w
     (λ words views kept at alive small.
     let there : i ≡ word_place start.began a.address =
     placed ∙ ap (λ (b : Began). word_place b a.address) (kept.seats id me.0 at alive).began in
-    let w : View = view_behind me.0 kept.history me.0.known (Some (Copied a)) in
+    let w : View = view_after me.0 kept.history me.0.known (Some (Copied a)) in
     let r = heading_copy start words views kept id me.0 at alive a k is all in (
       w,
       subst (λ (j : ℕ). IsStep start words (set words j word) views kept id me.0 at alive w) (sym there)
@@ -403,7 +403,7 @@ pub copying_within : {v : View} {a : Activation} {k : ℕ} → IsWithin v → v.
     → a.address + cost_of a.shape ≤ v.began.size + 1
 copying_within inside is = (rw is at inside.doing).0.within
 
--- a seat behind a claim of words past the last one
+-- a seat after a claim of words past the last one
 pub seated_lacking : {words : EpochWords} {old new : Seat ℕ View} {search : Search} {z : Shape} → IsSeat words old
     → new.table_id ≡ old.table_id → Stays old.me new.me → LacksCopy (knows_of old) (knows_of new) search z
     → IsSeat words new

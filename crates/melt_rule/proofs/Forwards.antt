@@ -51,7 +51,7 @@ pub probed_as : {v w : View} {search : Search} {empty another : Doing} {word : �
     → ProbesShared v w search empty another sent
 probed_as {word} sent found is = rw (← same_sent word found.sent sent found.is is) found.probes
 
--- the seat behind it
+-- the seat after it
 pub seated_probed : {words : EpochWords} {old new : Seat ℕ View} (search : Search) (empty another : Doing)
     (sent : Option (ℕ × ℕ)) → IsSeat words old → new.table_id ≡ old.table_id → Stays old.me new.me
     → ProbesShared (knows_of old) (knows_of new) search empty another sent → IsSeat words new

@@ -1,4 +1,4 @@
--- The rule holds behind a seat that was given.
+-- The rule holds after a seat that was given.
 use Rattle.std.proofs.Common.{◌≡◌, ◌≢◌, ℕ, zero, suc, ◌+◌, ◌<◌, ◌≤◌, List, [], ◌∷◌, ◌++◌, length, map, get_or}
 use Rattle.std.proofs.Common.{refl, sym, ◌∙◌, ap, subst, arith, inl, inr, true, false}
 use Rattle.std.proofs.Math.ListN.{set, length-set}

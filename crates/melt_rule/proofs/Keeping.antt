@@ -164,7 +164,7 @@ module _ (start : Start) (words after : List ℕ) (views : List View) (kept : Ke
     pub stops : Stops w
     pub bits : Bits maps cleared act w.known w.doing
 
-  -- a seat behind the step is the one that stepped, or was there before
+  -- a seat after the step is the one that stepped, or was there before
   cases : (w : View) (i : ℕ) (u : View) → get_elem? (set views id w) i ≡ some u
       → ((i ≡ id) × (w ≡ u)) ⊎ ((i ≢ id) × (get_elem? views i ≡ some u))
   cases w i u e = at_set views id i w u e

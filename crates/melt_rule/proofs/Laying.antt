@@ -6,12 +6,13 @@ use Rattle.std.proofs.lemmas.List.{length-drop}
 use Rattle.std.specs.Prelude.{slice_index}
 use Rattle.melt_space.specs.Space.{SpaceWords, word_at}
 use Rattle.melt_scion.specs.State.{State}
-use Rattle.melt_rule.specs.Shown.{base_at, forwards_in, free_place, front, globals_from, globals_in, space_in, shows}
+use Rattle.melt_rule.specs.Shown.{base_at, forwards_in, free_place, leading_words, globals_from, globals_in, space_in}
+use Rattle.melt_rule.specs.Shown.{shows}
 use Rattle.melt_rule.specs.declared.began.Began.{Began}
 
 -- the stop word, the first free place, globals, forwarding words and the words of the space, as an epoch has them
 abbrev pub laid_out : ℕ → ℕ → List ℕ → List ℕ → List ℕ → List ℕ
-laid_out stop free globals forwards space = front stop free ++ (globals ++ (forwards ++ space))
+laid_out stop free globals forwards space = leading_words stop free ++ (globals ++ (forwards ++ space))
 
 -- the state of these parts, registers aside
 abbrev pub state_by : Began → ℕ → List ℕ → List ℕ → SpaceWords → State
@@ -37,18 +38,18 @@ module _ (b : Began) (stop free : ℕ) (globals forwards : List ℕ) (space : Sp
   abbrev words : List ℕ
   words = laid_out stop free globals forwards space.list
 
-  abbrev behind : List ℕ
-  behind = globals ++ (forwards ++ space.list)
+  abbrev after : List ℕ
+  after = globals ++ (forwards ++ space.list)
 
   pub globals_laid : globals_in b words ≡ globals
   globals_laid =
-      ap (λ (n : ℕ). take n behind) (sym globals_are) ∙ take-append_seam globals (forwards ++ space.list)
+      ap (λ (n : ℕ). take n after) (sym globals_are) ∙ take-append_seam globals (forwards ++ space.list)
 
   pub forwards_laid : forwards_in b words ≡ forwards
   forwards_laid =
-      let from : globals_from + b.globals ≡ length (front stop free) + length globals = omega arith in
+      let from : globals_from + b.globals ≡ length (leading_words stop free) + length globals = omega arith in
       ap (λ (n : ℕ). take b.forwards (drop n words)) from
-      ∙ (ap (λ (l : List ℕ). take b.forwards l) (drop-append-add (front stop free) behind (length globals)
+      ∙ (ap (λ (l : List ℕ). take b.forwards l) (drop-append-add (leading_words stop free) after (length globals)
       ∙ drop-append_seam globals (forwards ++ space.list))
       ∙ (ap (λ (n : ℕ). take n (forwards ++ space.list)) (sym forwards_are)
       ∙ take-append_seam forwards space.list))
@@ -56,9 +57,9 @@ module _ (b : Began) (stop free : ℕ) (globals forwards : List ℕ) (space : Sp
   pub space_laid : (space_in b words).list ≡ space.list
   space_laid =
       let from : globals_from + b.globals + b.forwards
-      ≡ length (front stop free) + (length globals + length forwards) = omega arith in
+      ≡ length (leading_words stop free) + (length globals + length forwards) = omega arith in
       ap (λ (n : ℕ). drop n words) from
-      ∙ (drop-append-add (front stop free) behind (length globals + length forwards)
+      ∙ (drop-append-add (leading_words stop free) after (length globals + length forwards)
       ∙ (drop-append-add globals (forwards ++ space.list) (length forwards)
       ∙ drop-append_seam forwards space.list))
 

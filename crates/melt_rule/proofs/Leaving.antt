@@ -1,5 +1,5 @@
 -- A step that changes words of objects, globals and regions alone keeps the rule where it is an event of the core: what
--- it has to show of the view behind it.
+-- it has to show of the view after it.
 use Rattle.std.proofs.Common.{◌≡◌, ◌≢◌, ◌⊎◌, ℕ, ◌+◌, ◌<◌, ◌≤◌, false, List, length, get_or}
 use Rattle.std.proofs.Common.{refl, sym, ◌∙◌, ap, subst, arith, inl, inr}
 use Rattle.std.proofs.Math.ListN.{set, length-set}
@@ -21,7 +21,7 @@ use Rattle.melt_rule.proofs.Keeping.{Bits, IsStep}
 use Rattle.melt_rule.proofs.Showing.{filled_same, word_changes, global_changes}
 use Rattle.melt_rule.specs.Rule.{Has, SeatStands, Kept, is_lacking}
 use Rattle.melt_rule.specs.Shown.{shows, Knows, owned, free_place, global_place, word_place}
-use Rattle.melt_rule.specs.Tells.{HasAll, view_behind}
+use Rattle.melt_rule.specs.Tells.{HasAll, view_after}
 use Rattle.melt_rule.specs.declared.began.Pair.{Pair}
 use Rattle.melt_rule.specs.declared.began.Start.{Start}
 use Rattle.melt_rule.specs.declared.view.Doing.{Doing}
@@ -92,7 +92,7 @@ module _ (start : Start) (words after : List ℕ) (views : List View) (kept : Ke
 
   pub leaves : (maps : Maps) (mine : Region) (cleared : ℕ) (act : Option Act) (known : List Pair) (doing : Option Doing)
       → Leaves maps mine cleared act known doing
-      → StepTo (view_behind v (with_entry v.thread kept.history act) known doing) act
+      → StepTo (view_after v (with_entry v.thread kept.history act) known doing) act
   leaves maps mine cleared act known doing is = (
     record {
       maps = maps;
@@ -139,13 +139,13 @@ module _ (start : Start) (words after : List ℕ) (views : List View) (kept : Ke
     refl,
   )
 
-  -- where the seat knows the same addresses behind it
+  -- where the seat knows the same addresses after it
   pub leaves_same : (mine : Region) (cleared : ℕ) (act : Option Act) (doing : Option Doing)
       → Event start.began.told kept.history kept.maps kept.maps old new mine cleared act
       → ((i : ℕ) (u : View) → i ≢ id → get_elem? views i ≡ some u → 0 < u.parts → Apart mine (owned u.doing))
       → (owned doing ≡ owned v.doing) ⊎ (owned doing ≡ no_region) → Knows start.began.told kept.maps new v.rest doing
       → Bits start words after views kept id v at live kept.maps cleared act v.known doing
-      → StepTo (view_behind v (with_entry v.thread kept.history act) v.known doing) act
+      → StepTo (view_after v (with_entry v.thread kept.history act) v.known doing) act
   leaves_same mine cleared act doing event apart owns knows bits =
       let evolves : Evolves kept.maps kept.maps old new cleared =
       evolves_event start.began.told kept.history kept.maps kept.maps old new mine cleared act kept.holds.formed
@@ -169,7 +169,7 @@ module _ (start : Start) (words after : List ℕ) (views : List View) (kept : Ke
       → Event start.began.told kept.history kept.maps kept.maps old new no_region cleared act
       → (owned doing ≡ owned v.doing) ⊎ (owned doing ≡ no_region) → Knows start.began.told kept.maps new v.rest doing
       → Bits start words after views kept id v at live kept.maps cleared act v.known doing
-      → StepTo (view_behind v (with_entry v.thread kept.history act) v.known doing) act
+      → StepTo (view_after v (with_entry v.thread kept.history act) v.known doing) act
   leaves_none cleared act doing event owns knows bits =
       leaves_same no_region cleared act doing event (λ i u other is alive. no_region_apart (owned u.doing)) owns knows
       bits

@@ -36,7 +36,7 @@ use Rattle.melt_core.specs.declared.call.Search.{Search}
 use Rattle.melt_rule.proofs.Keeping.{Bits, IsStep, LookGoes, ReadsLook, adds, keeps_bits, sees, still_bits}
 use Rattle.melt_rule.specs.Rule.{Has, SeatStands, Kept, is_lacking, is_reading}
 use Rattle.melt_rule.specs.Shown.{shows, Knows, owned}
-use Rattle.melt_rule.specs.Tells.{HasAll, Adds, view_behind, Reaches, Looks, Ends, Polls, search_for}
+use Rattle.melt_rule.specs.Tells.{HasAll, Adds, view_after, Reaches, Looks, Ends, Polls, search_for}
 use Rattle.melt_rule.specs.declared.began.Began.{Began}
 use Rattle.melt_rule.specs.declared.began.Pair.{Pair}
 use Rattle.melt_rule.specs.declared.began.Start.{Start}
@@ -84,7 +84,7 @@ module _ (start : Start) (words : List ℕ) (views : List View) (kept : Kept sta
   pub stood : SeatStands start.began kept.maps now kept.history v
   stood = kept.seats id v at live
 
-  -- What a load shows of the view behind it: the pairs that it knows, and its call, which owns no words.
+  -- What a load shows of the view after it: the pairs that it knows, and its call, which owns no words.
   pub record Learns (known : List Pair) (doing : Option Doing) : Type 0 where
     pub more : HasAll v.known known
     pub named : (a n : ℕ) → Has known a n → kept.maps.address a ≡ Some n
@@ -107,7 +107,7 @@ module _ (start : Start) (words : List ℕ) (views : List View) (kept : Kept sta
       → Event start.began.told kept.history kept.maps kept.maps now now no_region 0 act → Learns known doing
       → (stopped ≡ true → get_or words 0 0 ≡ 1)
       → Bits start words words views kept id v at live kept.maps 0 act known doing
-      → Step (record (view_behind v (with_entry v.thread kept.history act) known doing) { stopped = stopped })
+      → Step (record (view_after v (with_entry v.thread kept.history act) known doing) { stopped = stopped })
   loads act known doing stopped event learns set_ bits = record {
     maps = kept.maps;
     mine = no_region;
@@ -154,10 +154,10 @@ module _ (start : Start) (words : List ℕ) (views : List View) (kept : Kept sta
   -- a load without an entry
   pub reaches : (doing : Option Doing) → Knows start.began.told kept.maps now v.rest doing → owned doing ≡ no_region
       → LooksOn doing → is_reading v.doing ≡ false
-      → Step (view_behind v kept.history v.known doing) × Reaches v (view_behind v kept.history v.known doing) doing
+      → Step (view_after v kept.history v.known doing) × Reaches v (view_after v kept.history v.known doing) doing
   unfolding loads
   reaches doing knows none look left =
-      let w : View = view_behind v kept.history v.known doing in
+      let w : View = view_after v kept.history v.known doing in
       let step : Step w = loads None v.known doing v.stopped (quiet refl (same now)) (learns_same doing knows none)
       (kept.stop.stopped id v at)
       (still_bits start words words views kept id v at live v.known doing look left) in
@@ -165,17 +165,17 @@ module _ (start : Start) (words : List ℕ) (views : List View) (kept : Kept sta
 
   -- a load of the stop word, which is set
   pub stops : get_or words 0 0 ≡ 1 → is_reading v.doing ≡ false
-      → let w : View = record (view_behind v kept.history v.known None) { stopped = true } in Step w × Polls v w true
+      → let w : View = record (view_after v kept.history v.known None) { stopped = true } in Step w × Polls v w true
   unfolding loads
   stops one left =
-      let w : View = record (view_behind v kept.history v.known None) { stopped = true } in
+      let w : View = record (view_after v kept.history v.known None) { stopped = true } in
       let step : Step w = loads None v.known None true (quiet refl (same now)) (learns_same None tt refl) (λ is. one)
       (still_bits start words words views kept id v at live v.known None (inl refl) left) in
       (step, (sees start words words views kept id v at live w step refl, refl))
 
-  -- the view behind a load that is answered
+  -- the view after a load that is answered
   abbrev pub read : Slot → Value → List Pair → View
-  read slot value known = view_behind v (with_entry v.thread kept.history (Some (Read slot value))) known None
+  read slot value known = view_after v (with_entry v.thread kept.history (Some (Read slot value))) known None
 
   -- it is answered by the word of a place
   pub reads : (place : Place) (slot : Slot) (value : Value) (known : List Pair) → IsPlace kept.maps now place
@@ -316,7 +316,7 @@ module _ (start : Start) (words : List ℕ) (views : List View) (kept : Kept sta
       } in
       let r = reaches (Some (Looked place (Stale a) a)) (looked, record { named = may; same = λ told. refl }) refl
       (inr (refl, inr (record { place = place; found = Stale a }, refl, is))) answers in
-      (view_behind v kept.history v.known (Some (Looked place (Stale a) a)), r.0, r.1)
+      (view_after v kept.history v.known (Some (Looked place (Stale a) a)), r.0, r.1)
   looks place slot (Disk home) there is_slot range is may answers =
       let looked : HasLooked kept.maps now place (Disk home) = record {
         at = there;
@@ -333,7 +333,7 @@ module _ (start : Start) (words : List ℕ) (views : List View) (kept : Kept sta
         probed = record { few = omega arith; others = λ i less. absurd (omega arith) };
         object = λ told. let n = home_object (kept.maps.home home) (last kept.history slot) (held told) in (n.0, n.1);
       }) refl (inr (refl, inr (home_look search, refl, is))) answers in (
-        view_behind v kept.history v.known (Some (Searching search)),
+        view_after v kept.history v.known (Some (Searching search)),
         r.0,
         record {
           reaches = r.1;

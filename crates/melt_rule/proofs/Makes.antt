@@ -41,7 +41,7 @@ use Rattle.melt_rule.proofs.Showing.{free_moves, word_changes, filled_same}
 use Rattle.melt_rule.specs.Making.{Claims, Lacks, Makes}
 use Rattle.melt_rule.specs.Rule.{Has, SeatStands, Kept, has_cause, is_lacking, is_reading}
 use Rattle.melt_rule.specs.Shown.{shows, Knows, owned, free_place, globals_from, word_place}
-use Rattle.melt_rule.specs.Tells.{Adds, view_behind, Reaches}
+use Rattle.melt_rule.specs.Tells.{Adds, view_after, Reaches}
 use Rattle.melt_rule.specs.declared.began.Began.{Began}
 use Rattle.melt_rule.specs.declared.began.Pair.{Pair}
 use Rattle.melt_rule.specs.declared.began.Start.{Start}
@@ -96,9 +96,9 @@ free_apart told maps s rest words (Some (Retrying a)) knows = free_apart_from ma
     knows.copy.owns
 free_apart told maps s rest words (Some doing) knows = apart_none (record { at = s.free; words = words })
 
--- the view behind the entry of a new object
+-- the view after the entry of a new object
 abbrev pub made_view : View → List Entry → ℕ → Shape → View
-made_view v h address z = view_behind v (with_entry v.thread h (Some (Make z.refs z.nums)))
+made_view v h address z = view_after v (with_entry v.thread h (Some (Make z.refs z.nums)))
     (v.known ++ record { address = address; object = made h } ∷ []) None
 
 -- the object has the number that comes next
@@ -108,10 +108,10 @@ told_makes v h address z told =
     let front : h ≡ v.seen ++ told.between =
     append_cancel_right h (v.seen ++ told.between) (entry v.thread (Make z.refs z.nums) ∷ []) told.seen in
     let view : ℕ → View =
-    λ n. view_behind v (made_view v h address z).seen (v.known ++ record { address = address; object = n } ∷ []) None in
+    λ n. view_after v (made_view v h address z).seen (v.known ++ record { address = address; object = n } ∷ []) None in
     record { adds = told; is = ap view (ap made front) }
 
--- a thread owns its words behind a change of another word
+-- a thread owns its words after a change of another word
 pub owns_still : (maps : Maps) (s t : State) (r : Region) → FormedWords maps s → Evolves maps maps s t 0 → Owns maps s r
     → Owns maps t r
 owns_still maps s t r formed evolves owns = record {
@@ -152,7 +152,7 @@ module _ (start : Start) (words : List ℕ) (views : List View) (kept : Kept sta
       let wide : free + cost < 18446744073709551616 = omega arith in
       wide
 
-  -- the words behind a claim of so many
+  -- the words after a claim of so many
   abbrev pub claimed_words : ℕ → List ℕ
   claimed_words cost = set words free_place (free + cost)
 
@@ -166,9 +166,9 @@ module _ (start : Start) (words : List ℕ) (views : List View) (kept : Kept sta
       no_region 0 None kept.holds.formed
       (claims cost refl (moves cost))
 
-  -- the view behind a claim of so many words, by a call that knows these words of a record
+  -- the view after a claim of so many words, by a call that knows these words of a record
   abbrev pub claimed : List ℕ → ℕ → ℕ → Bool → Doing → View
-  claimed rest cost over spaced doing = record (view_behind v kept.history v.known (Some doing)) {
+  claimed rest cost over spaced doing = record (view_after v kept.history v.known (Some doing)) {
     rest = rest;
     claimed = v.claimed + cost;
     over = over;
@@ -388,11 +388,11 @@ module _ (start : Start) (words : List ℕ) (views : List View) (kept : Kept sta
   -- the next word of the own region is 0
   pub filling : (address k : ℕ) (z : Shape) → v.doing ≡ Some (Claimed address z k) → k + 1 < cost_of z
       → let doing : Option Doing = Some (Claimed address z (k + 1)) in
-      let w : View = view_behind v kept.history v.known doing in
+      let w : View = view_after v kept.history v.known doing in
       IsStep start words (with_word (address + 1 + k) 0) views kept id v at live w × Reaches v w doing
   filling address k z is few =
       let doing : Option Doing = Some (Claimed address z (k + 1)) in
-      let w : View = view_behind v kept.history v.known doing in
+      let w : View = view_after v kept.history v.known doing in
       let mine = mine_is address k z is in
       let place : ℕ = address + 1 + k in
       let after : List ℕ = with_word place 0 in

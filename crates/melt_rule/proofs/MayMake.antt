@@ -17,7 +17,7 @@ use Rattle.melt_rule.proofs.Within.{allowed}
 use Rattle.melt_rule.specs.Making.{Claims, Lacks, Makes, ClaimPlay, FillPlay, PublishPlay}
 use Rattle.melt_rule.specs.Rule.{Rule, has_cause, is_reading}
 use Rattle.melt_rule.specs.Shown.{free_place, word_place}
-use Rattle.melt_rule.specs.Tells.{IsWithin, view_behind, Reaches}
+use Rattle.melt_rule.specs.Tells.{IsWithin, view_after, Reaches}
 use Rattle.melt_rule.specs.declared.began.Began.{Began}
 use Rattle.melt_rule.specs.declared.began.Start.{Start}
 use Rattle.melt_rule.specs.declared.view.Doing.TheVariants.{Claimed, Lacking}
@@ -71,7 +71,7 @@ fills {start} {slots} id {i} {address} {k} {z} {me} live is few placed =
     let place : ℕ = address + 1 + k in
     let there : i ≡ word_place start.began place =
     placed ∙ ap (λ (b : Began). word_place b place) (kept.seats id me.0 at alive).began in
-    let w : View = view_behind me.0 kept.history me.0.known (Some (Claimed address z (k + 1))) in
+    let w : View = view_after me.0 kept.history me.0.known (Some (Claimed address z (k + 1))) in
     let r = filling start words views kept id me.0 at alive address k z is few in (
       w,
       subst (λ (j : ℕ). IsStep start words (set words j 0) views kept id me.0 at alive w) (sym there) r.0,

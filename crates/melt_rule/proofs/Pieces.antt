@@ -1,4 +1,4 @@
--- Places in lists, and in two of which one is behind the other.
+-- Places in lists, and in two of which one is after the other.
 use Rattle.std.proofs.Common.{◌≡◌, ◌⊎◌, ℕ, zero, suc, ◌+◌, List, [], ◌∷◌, ◌++◌, length, get_or, take, drop}
 use Rattle.std.proofs.Common.{◌<◌, ◌≤◌, refl, sym, ◌∙◌, ap, arith, inl, inr}
 use Rattle.std.proofs.lemmas.List.{ext_get_or, get_or-take, get_or-drop, length-take, length-drop}
@@ -16,11 +16,11 @@ module _ {A : Type 0} where
     | inr h ↦ inr (h.0, (let is = h.1 in omega arith), h.2)
   ]
 
-  pub at_behind : (l m : List A) (q : ℕ) (t : A) → get_elem? m q ≡ some t → get_elem? (l ++ m) (length l + q) ≡ some t
-  at_behind [] m q t e = let same : 0 + q ≡ q = omega arith in ap (λ (z : ℕ). get_elem? m z) same ∙ e
-  at_behind (x ∷ l) m q t e =
+  pub at_after : (l m : List A) (q : ℕ) (t : A) → get_elem? m q ≡ some t → get_elem? (l ++ m) (length l + q) ≡ some t
+  at_after [] m q t e = let same : 0 + q ≡ q = omega arith in ap (λ (z : ℕ). get_elem? m z) same ∙ e
+  at_after (x ∷ l) m q t e =
       let same : length (x ∷ l) + q ≡ suc (length l + q) = omega arith in
-      ap (λ (z : ℕ). get_elem? (x ∷ l ++ m) z) same ∙ at_behind l m q t e
+      ap (λ (z : ℕ). get_elem? (x ∷ l ++ m) z) same ∙ at_after l m q t e
 
   -- the same where the second has one element
   pub at_end : (l : List A) (a b : A) (p : ℕ) → get_elem? (l ++ a ∷ []) p ≡ some b

@@ -29,7 +29,7 @@ use Rattle.melt_rule.proofs.Within.{allowed}
 use Rattle.melt_rule.specs.Coming.{FindsForward, ProbePlay, RetryPlay, probe_place}
 use Rattle.melt_rule.specs.Rule.{SeatStands, Kept, Rule, is_lacking, is_reading}
 use Rattle.melt_rule.specs.Shown.{shows, owned, Knows, core_stage, staged}
-use Rattle.melt_rule.specs.Tells.{Reaches, view_behind}
+use Rattle.melt_rule.specs.Tells.{Reaches, view_after}
 use Rattle.melt_rule.specs.declared.began.Began.{Began}
 use Rattle.melt_rule.specs.declared.began.Start.{Start}
 use Rattle.melt_rule.specs.declared.view.Doing.{Doing}
@@ -43,7 +43,7 @@ module _ (start : Start) (words : List ℕ) (views : List View) (kept : Kept sta
   now = shows start.began words
 
   abbrev to : Option Doing → View
-  to doing = view_behind v kept.history v.known doing
+  to doing = view_after v kept.history v.known doing
 
   -- a step that changes no word, and leaves the region of the call its own or nobody's
   pub goes : (doing : Option Doing) → Knows start.began.told kept.maps now v.rest doing
@@ -56,7 +56,7 @@ module _ (start : Start) (words : List ℕ) (views : List View) (kept : Kept sta
       (still_bits start words words views kept id v at live v.known doing (inr (refl, inl look)) left) in
       (s.0, record { sees = sees start words words views kept id v at live (to doing) s.0 s.1; is = refl })
 
-  -- What a search knows, where it may read one word more; and what it knows behind an empty word, and behind one that
+  -- What a search knows, where it may read one word more; and what it knows after an empty word, and after one that
   -- sends another home.
   pub record Probing (search : Search) (empty another : Doing) : Type 0 where
     pub searches : Searches start.began.told kept.maps now search.place search.home search.tried

@@ -13,10 +13,10 @@ use Rattle.melt_core.specs.declared.call.Place.{Place}
 use Rattle.melt_rule.specs.Plays.{FindsReference, Stays}
 use Rattle.melt_rule.specs.Rule.{has_cause}
 use Rattle.melt_rule.specs.Seats.{EpochWords, IsSeat, knows_of}
-use Rattle.melt_rule.specs.Tells.{view_behind, caused, Asks, Exchanged, Looks, Polls, Reads}
+use Rattle.melt_rule.specs.Tells.{view_after, caused, Asks, Exchanged, Looks, Polls, Reads}
 use Rattle.melt_rule.specs.declared.view.View.{View}
 
--- a seat behind a step that led to a view of the same parts and the same beginning
+-- a seat after a step that led to a view of the same parts and the same beginning
 pub seated : {words : EpochWords} {old new : Seat ℕ View} {w : View} → IsSeat words old → new.table_id ≡ old.table_id
     → Stays old.me new.me → knows_of new ≡ w → w.parts ≡ (knows_of old).parts → w.began ≡ (knows_of old).began
     → IsSeat words new
@@ -28,17 +28,17 @@ seated seat table stays is parts began = record {
   within = stays.1;
 }
 
--- behind a read of the stop word
+-- after a read of the stop word
 pub seated_polled : {words : EpochWords} {old new : Seat ℕ View} (set_ : Bool) → IsSeat words old
     → new.table_id ≡ old.table_id → Stays old.me new.me → Polls (knows_of old) (knows_of new) set_ → IsSeat words new
 seated_polled false seat table stays polls = seated seat table stays polls.0.is refl refl
 seated_polled true seat table stays polls = seated seat table stays polls.1 refl refl
 
--- behind `ask`
+-- after `ask`
 pub seated_asked : {words : EpochWords} {old new : Seat ℕ View} → IsSeat words old → new.table_id ≡ old.table_id
     → Stays old.me new.me → Asks (knows_of old) (knows_of new) → IsSeat words new
 seated_asked {old} {new} seat table stays asks =
-    let base : View = view_behind (knows_of old) (knows_of new).seen (knows_of old).known None in
+    let base : View = view_after (knows_of old) (knows_of new).seen (knows_of old).known None in
     let same = caused_keeps base (has_cause base) refl in
     seated seat table stays asks.1 same.0 same.1
   where
@@ -51,7 +51,7 @@ seated_asked {old} {new} seat table stays asks =
         ap (λ (b : Bool). if b then v else record v { asked = true }) is in
         (ap (λ (u : View). u.parts) e, ap (λ (u : View). u.began) e)
 
--- behind a look at a place
+-- after a look at a place
 pub seated_looked : {words : EpochWords} {old new : Seat ℕ View} (at : Slot) (place : Place) (found : Ref)
     → IsSeat words old → new.table_id ≡ old.table_id → Stays old.me new.me
     → Looks (knows_of old) (knows_of new) at place found → IsSeat words new

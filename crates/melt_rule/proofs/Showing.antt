@@ -11,7 +11,7 @@ use Rattle.melt_rule.specs.Shown.{shows, forwards_in, globals_in, space_in}
 use Rattle.melt_rule.specs.Shown.{forward_place, free_place, global_place, globals_from, word_place}
 use Rattle.melt_rule.specs.declared.began.Began.{Began}
 
--- a number of a list behind so many others
+-- a number of a list after so many others
 get_drop : (n : ℕ) (xs : List ℕ) (i : ℕ) → get_or (drop n xs) i 0 ≡ get_or xs (n + i) 0
 get_drop zero xs i = ap (λ (k : ℕ). get_or xs k 0) (sym (zero-add i))
 get_drop (suc n) [] i = refl
@@ -51,15 +51,15 @@ stretch_here from n xs x i below within =
 
 module _ (b : Began) (words : List ℕ) where
   -- so many words stand before those of the space
-  abbrev front : ℕ
-  front = globals_from + b.globals + b.forwards
+  abbrev words_before : ℕ
+  words_before = globals_from + b.globals + b.forwards
 
-  place_is : (k : ℕ) → front + k ≡ word_place b (suc k)
+  place_is : (k : ℕ) → words_before + k ≡ word_place b (suc k)
   place_is k = omega arith
 
   pub word_is : (address : ℕ) → 1 ≤ address → word_at (space_in b words) address ≡ get_or words (word_place b address) 0
   word_is zero first = absurd (omega arith)
-  word_is (suc k) first = get_drop front words k ∙ ap (λ (n : ℕ). get_or words n 0) (place_is k)
+  word_is (suc k) first = get_drop words_before words k ∙ ap (λ (n : ℕ). get_or words n 0) (place_is k)
 
   pub global_is : (g : ℕ) → g < b.globals → get_or (globals_in b words) g 0 ≡ get_or words (global_place g) 0
   global_is g below = get_take b.globals (drop globals_from words) g below ∙ get_drop globals_from words g
@@ -73,15 +73,15 @@ module _ (b : Began) (words : List ℕ) where
       → word_at (space_in b (set words at x)) address ≡ word_at (space_in b words) address
   space_other at x zero other = refl
   space_other at x (suc k) other =
-      get_drop front (set words at x) k
-      ∙ (get_or-set_other words at (front + k) x 0 (λ same. other (omega arith) (sym (place_is k) ∙ same))
-      ∙ sym (get_drop front words k))
+      get_drop words_before (set words at x) k
+      ∙ (get_or-set_other words at (words_before + k) x 0 (λ same. other (omega arith) (sym (place_is k) ∙ same))
+      ∙ sym (get_drop words_before words k))
 
   space_here : (x address : ℕ) → 1 ≤ address → word_place b address < length words
       → word_at (space_in b (set words (word_place b address) x)) address ≡ x
   space_here x zero first within = absurd (omega arith)
   space_here x (suc k) first within =
-      get_drop front (set words (word_place b (suc k)) x) k
+      get_drop words_before (set words (word_place b (suc k)) x) k
       ∙ (ap (λ (n : ℕ). get_or (set words (word_place b (suc k)) x) n 0) (place_is k)
       ∙ get_or-set_same words (word_place b (suc k)) x 0 within)
 

@@ -44,10 +44,10 @@ pub slot_word_at : {inside : Inside} {seat : Seat ℕ View} → AtTable inside s
     → inside.before + a + 2 + i ≡ word_place (knows_of seat).began (a + 2 + i)
 slot_word_at at a i = let word = word_at at (a + 2 + i) in omega arith
 
--- and that of a word behind the header
-pub word_behind_at : {inside : Inside} {seat : Seat ℕ View} → AtTable inside seat → (a k : ℕ)
+-- and that of a word after the header
+pub word_after_at : {inside : Inside} {seat : Seat ℕ View} → AtTable inside seat → (a k : ℕ)
     → inside.before + a + 1 + k ≡ word_place (knows_of seat).began (a + 1 + k)
-word_behind_at at a k = let word = word_at at (a + 1 + k) in omega arith
+word_after_at at a k = let word = word_at at (a + 1 + k) in omega arith
 
 -- the table has the word of an address of the space
 pub has_word : {inside : Inside} {seat : Seat ℕ View} → AtTable inside seat → (a : ℕ)
@@ -73,14 +73,14 @@ held_fits held at (inr some_) =
     let size = ap (λ (b : Began). b.size) at.is_seat.began in
     omega arith
 
--- nor behind a load that was answered
+-- nor after a load that was answered
 pub read_fits : {inside : Inside} {old : Seat ℕ View} {at : Slot} {address : ℕ} (new : Seat ℕ View)
     → AtTable inside old → new.table_id ≡ old.table_id → Stays old.me new.me
     → Reads (knows_of old) (knows_of new) at address → address < 2 ^ 30
 read_fits {inside} {address} new stood table stays reads =
-    let behind : AtTable inside new =
+    let after : AtTable inside new =
     record { table = stood.table; is_seat = seated stood.is_seat table stays reads.is refl refl } in
-    held_fits address behind reads.names
+    held_fits address after reads.names
 
 -- A part of the object of which the call speaks. The table has the place of its word, which is that of an address of
 -- the space.

@@ -27,7 +27,7 @@ use Rattle.melt_rule.specs.Coming.{FillsPlay, IsSearching}
 use Rattle.melt_rule.specs.Plays.{StopPlay, AskPlay}
 use Rattle.melt_rule.specs.Rule.{SeatStands, Kept, Rule, has_cause, is_reading}
 use Rattle.melt_rule.specs.Shown.{shows, owned, Knows}
-use Rattle.melt_rule.specs.Tells.{Sees, view_behind, caused}
+use Rattle.melt_rule.specs.Tells.{Sees, view_after, caused}
 use Rattle.melt_rule.specs.declared.began.Began.{Began}
 use Rattle.melt_rule.specs.declared.began.Start.{Start}
 use Rattle.melt_rule.specs.declared.view.View.{View}
@@ -49,10 +49,10 @@ module _ (start : Start) (words : List ℕ) (views : List View) (kept : Kept sta
   set_there : get_or after 0 0 ≡ 1
   set_there = get_or-set_same words 0 1 0 (let size = kept.size in omega arith)
 
-  -- The view behind it, which may have been asked, or have found all forwarding words filled.
+  -- The view after it, which may have been asked, or have found all forwarding words filled.
   abbrev pub stopped_by : Bool → Bool → View
   stopped_by asked forwarded =
-      record (view_behind v kept.history v.known None) { asked = asked; forwarded = forwarded }
+      record (view_after v kept.history v.known None) { asked = asked; forwarded = forwarded }
 
   pub stops_by : (asked forwarded : Bool) → has_cause (stopped_by asked forwarded) ≡ true
       → (forwarded ≡ true → (p : ℕ) → p < start.began.forwards → old.forward p ≢ 0) → is_reading v.doing ≡ false
@@ -112,7 +112,7 @@ stops_at {start} {slots} id {me} live cause left =
     (λ words views kept at alive small.
     let r = stops_by start words views kept id me.0 at alive me.0.asked me.0.forwarded cause
     (kept.stop.forwarded id me.0 at) left in (
-      view_behind me.0 kept.history me.0.known None,
+      view_after me.0 kept.history me.0.known None,
       r.0,
       λ inside. ((refl, inside), record { sees = r.1; is = refl }),
     ))
@@ -163,7 +163,7 @@ fills_at {start} {slots} id {search} {me} live on all =
     (forwarded_cause me.0.asked me.0.spaced)
     (λ is. all_filled searches read)
     (searches_left me.0 search on) in (
-      record (view_behind me.0 kept.history me.0.known None) { forwarded = true },
+      record (view_after me.0 kept.history me.0.known None) { forwarded = true },
       r.0,
       λ inside. ((refl, inside), (r.1, refl)),
     ))
@@ -183,7 +183,7 @@ pub asks_at : {start : Start} {slots : ℕ} (id : ℕ) {me : Me ℕ View} → 0 
 asks_at {start} {slots} id {me} live left =
     allowed slots id 0 me (λ _. 1) (λ found. AskPlay (step slots 0 1 0 none) me 1) live
     (λ words views kept at alive small.
-    let base : View = view_behind me.0 kept.history me.0.known None in
+    let base : View = view_after me.0 kept.history me.0.known None in
     let c = caused_is base (has_cause base) refl in
     let r = stops_by start words views kept id me.0 at alive c.0 me.0.forwarded c.2
     (kept.stop.forwarded id me.0 at) left in (

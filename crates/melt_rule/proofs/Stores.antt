@@ -27,7 +27,7 @@ use Rattle.melt_rule.proofs.Keeping.{IsStep, adds, keeps_bits}
 use Rattle.melt_rule.proofs.Leaving.{OnlyObjects, leaves_none}
 use Rattle.melt_rule.specs.Rule.{SeatStands, Kept, is_lacking, is_reading}
 use Rattle.melt_rule.specs.Shown.{shows}
-use Rattle.melt_rule.specs.Tells.{view_behind, Names, Ends}
+use Rattle.melt_rule.specs.Tells.{view_after, Names, Ends}
 use Rattle.melt_rule.specs.declared.began.Start.{Start}
 use Rattle.melt_rule.specs.declared.view.View.{View}
 
@@ -48,9 +48,9 @@ module _ (start : Start) (words after : List ℕ) (views : List View) (kept : Ke
   stood : SeatStands start.began kept.maps old kept.history v
   stood = kept.seats id v at live
 
-  -- the view behind a store
+  -- the view after a store
   abbrev pub wrote : Act → View
-  wrote act = view_behind v (with_entry v.thread kept.history (Some act)) v.known None
+  wrote act = view_after v (with_entry v.thread kept.history (Some act)) v.known None
 
   ends : (act : Act) → is_reading v.doing ≡ false → ((n : ℕ) → given kept.history act ≡ Some (Ref n) → ⊥)
       → Event start.began.told kept.history kept.maps kept.maps old new no_region 0 (Some act)

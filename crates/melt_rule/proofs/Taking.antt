@@ -1,4 +1,4 @@
--- The rule holds behind a seat that took in another.
+-- The rule holds after a seat that took in another.
 use Rattle.std.proofs.Common.{◌≡◌, ◌≢◌, ◌⊎◌, ℕ, zero, suc, ◌+◌, ◌<◌, ◌≤◌, List, ◌∷◌, ◌++◌, length, get_or}
 use Rattle.std.proofs.Common.{refl, sym, ◌∙◌, ap, subst, arith, inl, inr, Bool, true, false, ◌||◌}
 use Rattle.std.proofs.Math.ListN.{set}
@@ -16,7 +16,7 @@ use Rattle.melt_scion.specs.Regions.{Apart}
 use Rattle.melt_scion.specs.State.{State}
 use Rattle.melt_core.specs.StaleBits.{pending}
 use Rattle.melt_rule.proofs.Lengths.{longer_first, longer_second, saw_longer}
-use Rattle.melt_rule.proofs.Pieces.{at_append, at_behind}
+use Rattle.melt_rule.proofs.Pieces.{at_append, at_after}
 use Rattle.melt_rule.proofs.Tying.{left_tied, none_pending, stage_apart, stage_here, stage_idle}
 use Rattle.melt_rule.proofs.Tying.{stage_none, stage_other, stage_set}
 use Rattle.melt_rule.proofs.Views.{cases_zero, in_range, sum_set}
@@ -35,7 +35,7 @@ has_left : (l m : List Pair) (a n : ℕ) → Has l a n → Has (l ++ m) a n
 has_left l m a n x = (x.0, at_longer l m x.0 (record { address = a; object = n }) x.1)
 
 has_right : (l m : List Pair) (a n : ℕ) → Has m a n → Has (l ++ m) a n
-has_right l m a n x = (length l + x.0, at_behind l m x.0 (record { address = a; object = n }) x.1)
+has_right l m a n x = (length l + x.0, at_after l m x.0 (record { address = a; object = n }) x.1)
 
 has_either : (l m : List Pair) (a n : ℕ) → Has (l ++ m) a n → Has l a n ⊎ Has m a n
 has_either l m a n x = elim (at_append l m x.0 (record { address = a; object = n }) x.1) [
@@ -227,7 +227,7 @@ module _ (start : Start) (words : List ℕ) (views : List View) (kept : Kept sta
     | yes same ↦ both_speak p t (at_longer (threads_of v) (threads_of w) p t
         (ap (λ (z : View). get_elem? (threads_of z) p) (sym (had i id u v e at same)) ∙ has))
     | no ne ↦ elim (ℕ_discrete i other) [
-      | yes same ↦ both_speak (length (threads_of v) + p) t (at_behind (threads_of v) (threads_of w) p t
+      | yes same ↦ both_speak (length (threads_of v) + p) t (at_after (threads_of v) (threads_of w) p t
           (ap (λ (z : View). get_elem? (threads_of z) p) (sym (had i other u w e there same)) ∙ has))
       | no ne' ↦ record { seat = i; place = p; view = u; is = others_there i u ne ne' e; alive = alive; has = has }
     ]
@@ -270,19 +270,19 @@ module _ (start : Start) (words : List ℕ) (views : List View) (kept : Kept sta
   }
 
   -- the other's own thread is away now, with what it had seen
-  away_behind : (q : ℕ) (b : Away) → get_elem? (record { thread = w.thread; seen = w.mine } ∷ w.away) q ≡ some b
+  away_after : (q : ℕ) (b : Away) → get_elem? (record { thread = w.thread; seen = w.mine } ∷ w.away) q ≡ some b
       → Saw kept.history b.thread b.seen
-  away_behind zero b e =
+  away_after zero b e =
       subst (λ (x : Away). Saw kept.history x.thread x.seen)
       (some-injective (record { thread = w.thread; seen = w.mine }) b e)
       theirs.mine
-  away_behind (suc q) b e = kept.away other q w b there live_w e
+  away_after (suc q) b e = kept.away other q w b there live_w e
 
   away_both : (p : ℕ) (b : Away) → get_elem? both.away p ≡ some b → Saw kept.history b.thread b.seen
   away_both p b has =
       elim (at_append v.away (record { thread = w.thread; seen = w.mine } ∷ w.away) p b has) [
         | inl h ↦ kept.away id p v b at live h
-        | inr h ↦ away_behind h.0 b h.2
+        | inr h ↦ away_after h.0 b h.2
       ]
 
   away_kept : (i p : ℕ) (u : View) (b : Away) → get_elem? after i ≡ some u → 0 < u.parts → get_elem? u.away p ≡ some b

@@ -43,7 +43,7 @@ use Rattle.melt_rule.proofs.Within.{allowed, within}
 use Rattle.melt_rule.specs.Barriers.{Untags, UntagPlay, GlobalUntagPlay}
 use Rattle.melt_rule.specs.Rule.{Has, SeatStands, Kept, Rule, is_lacking}
 use Rattle.melt_rule.specs.Shown.{shows, owned, global_place, word_place, Knows, core_stage}
-use Rattle.melt_rule.specs.Tells.{FitsIn, view_behind, Reads}
+use Rattle.melt_rule.specs.Tells.{FitsIn, view_after, Reads}
 use Rattle.melt_rule.specs.declared.began.Began.{Began}
 use Rattle.melt_rule.specs.declared.began.Pair.{Pair}
 use Rattle.melt_rule.specs.declared.began.Start.{Start}
@@ -124,9 +124,9 @@ module _ (start : Start) (words : List ℕ) (views : List View) (kept : Kept sta
       abbrev pub pair : Pair
       pair = record { address = target; object = n }
 
-      -- the view behind an exchange that was won
+      -- the view after an exchange that was won
       abbrev pub won : Slot → View
-      won slot_ = view_behind v (with_entry v.thread kept.history (Some (Read slot_ (Object n))))
+      won slot_ = view_after v (with_entry v.thread kept.history (Some (Read slot_ (Object n))))
           (v.known ++ pair ∷ []) None
 
       pub wins : (slot_ : Slot) → SlotAt kept.maps place slot_ → word_in old place ≡ ref_word found

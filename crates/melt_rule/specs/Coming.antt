@@ -18,7 +18,7 @@ use Rattle.melt_core.specs.declared.call.Search.{Search}
 use Rattle.melt_rule.specs.Making.{FirstFree}
 use Rattle.melt_rule.specs.Plays.{Stays}
 use Rattle.melt_rule.specs.Shown.{base_at, forward_place, word_place}
-use Rattle.melt_rule.specs.Tells.{Sees, view_behind, Reaches}
+use Rattle.melt_rule.specs.Tells.{Sees, view_after, Reaches}
 use Rattle.melt_rule.specs.declared.began.Began.{Began}
 use Rattle.melt_rule.specs.declared.view.Doing.{Doing}
 use Rattle.melt_rule.specs.declared.view.Doing.TheVariants.{Cleared, Copied, Copying, LackingCopy, Missed, Retrying}
@@ -49,20 +49,20 @@ IsSearching v search = (v.doing ≡ Some (Searching search))
 
 -- All forwarding words send other homes, and the stop word was set.
 abbrev pub Fills : View → View → Type 0
-Fills v w = Sees v w.seen × (w ≡ record (view_behind v w.seen v.known None) { forwarded = true })
+Fills v w = Sees v w.seen × (w ≡ record (view_after v w.seen v.known None) { forwarded = true })
 
 -- where it is told, a Body of this shape stands at the home on disk, and the object of the home has the shape
 abbrev pub HomeHas : View → List Entry → ℕ → Shape → Type 0
 HomeHas v h home z = v.began.told ≡ true → HeadIs (base_at v.began) home (record { shape = z; kind = Body })
     × ((n : ℕ) → named v.began.maps.homes home ≡ Some n → shape h n ≡ Some (record { refs = z.refs; nums = z.nums }))
 
--- Words from the address on are for a copy of the Body of this shape, with these words behind its head.
+-- Words from the address on are for a copy of the Body of this shape, with these words after its head.
 pub record ClaimsCopy (v w : View) (search : Search) (z : Shape) (rest : List ℕ) (address : ℕ) : Type 0 where
   pub sees : Sees v w.seen
   pub object : HomeHas v w.seen search.home z
   pub first : FirstFree v address
   pub fits : address + cost_of z ≤ v.began.size + 1
-  pub is : w ≡ record (view_behind v w.seen v.known
+  pub is : w ≡ record (view_after v w.seen v.known
       (Some (Copying (record { search = search; address = address; shape = z }) 0))) {
         rest = rest;
         claimed = v.claimed + cost_of z;
@@ -75,7 +75,7 @@ pub record LacksCopy (v w : View) (search : Search) (z : Shape) : Type 0 where
   pub found : ℕ
   pub first : FirstFree v found
   pub past : v.began.size + 1 < found + cost_of z
-  pub is : w ≡ record (view_behind v w.seen v.known (Some (LackingCopy search z))) {
+  pub is : w ≡ record (view_after v w.seen v.known (Some (LackingCopy search z))) {
     claimed = v.claimed + cost_of z;
     over = v.over + 1;
     spaced = true;
@@ -91,7 +91,7 @@ pub record Wins (v w : View) (a : Activation) : Type 0 where
   pub sees : Sees v w.seen
   pub object : ℕ
   pub named : v.began.told ≡ true → named v.began.maps.homes a.search.home ≡ Some object
-  pub is : w ≡ record (view_behind v w.seen (v.known ++ record { address = a.address; object = object } ∷ [])
+  pub is : w ≡ record (view_after v w.seen (v.known ++ record { address = a.address; object = object } ∷ [])
       (Some (Cleared a.search.place (Disk a.search.home) a.address))) { won = v.won + 1 }
 
 -- A commit found what its forwarding word sent by then: none, so that the copy is sent
@@ -134,7 +134,7 @@ CopyPlay z rest s m found w = Stays m w × (found + s.first < 2 ^ 64)
     → (found + s.first ≤ m.0.began.size + 1 → ClaimsCopy m.0 w.0 search z rest found)
     × (m.0.began.size + 1 < found + s.first → LacksCopy m.0 w.0 search z))
 
--- a word of a copy was stored, behind its header
+-- a word of a copy was stored, after its header
 abbrev pub FillCopyPlay : Step ℕ → Me ℕ View → ℕ → Me ℕ View → Type 0
 FillCopyPlay s m stored w = Stays m w
     × ((a : Activation) (k : ℕ) → m.0.doing ≡ Some (Copying a k)

@@ -1,4 +1,4 @@
--- What the steps of a call that makes an object tell its thread: the claim of its words, the stores into those behind
+-- What the steps of a call that makes an object tell its thread: the claim of its words, the stores into those after
 -- the first, and the store of its header.
 use Rattle.std.specs.Prelude.{◌≡◌, ℕ, ◌+◌, ◌^◌, ◌<◌, ◌≤◌, true, false, [], ◌∷◌, ◌++◌, length, Option, None, Some}
 use Rattle.atomic_table.specs.Table.{Me, Step}
@@ -7,11 +7,11 @@ use Rattle.melt_model.specs.declared.history.Act.TheVariants.{Make}
 use Rattle.melt_word.specs.Words.{IsShape, cost_of, header_word}
 use Rattle.melt_word.specs.declared.header.Shape.{Shape}
 use Rattle.melt_rule.specs.Plays.{Stays}
-use Rattle.melt_rule.specs.Tells.{Sees, Adds, view_behind, Reaches}
+use Rattle.melt_rule.specs.Tells.{Sees, Adds, view_after, Reaches}
 use Rattle.melt_rule.specs.declared.view.Doing.TheVariants.{Claimed, Lacking}
 use Rattle.melt_rule.specs.declared.view.View.{View}
 
--- A claim found the first free place there. It lies behind all words that the seat has claimed; and where the seat
+-- A claim found the first free place there. It lies after all words that the seat has claimed; and where the seat
 -- speaks for all threads, no others were claimed.
 pub record FirstFree (v : View) (found : ℕ) : Type 0 where
   pub from : v.began.free + v.claimed ≤ found
@@ -25,7 +25,7 @@ pub record Claims (v w : View) (address cost : ℕ) : Type 0 where
   pub shape : Shape
   pub small : IsShape shape
   pub costs : cost_of shape ≡ cost
-  pub is : w ≡ record (view_behind v w.seen v.known (Some (Claimed address shape 0))) { claimed = v.claimed + cost }
+  pub is : w ≡ record (view_after v w.seen v.known (Some (Claimed address shape 0))) { claimed = v.claimed + cost }
 
 -- They end past the last word, which is a cause to stop.
 pub record Lacks (v w : View) (cost : ℕ) : Type 0 where
@@ -33,7 +33,7 @@ pub record Lacks (v w : View) (cost : ℕ) : Type 0 where
   pub found : ℕ
   pub first : FirstFree v found
   pub past : v.began.size + 1 < found + cost
-  pub is : w ≡ record (view_behind v w.seen v.known (Some (Lacking cost))) {
+  pub is : w ≡ record (view_after v w.seen v.known (Some (Lacking cost))) {
     claimed = v.claimed + cost;
     over = v.over + 1;
     spaced = true;
@@ -47,7 +47,7 @@ ClaimTells v w cost (Some address) = Claims v w address cost
 -- The region became an object of this shape, with the number that comes next.
 pub record Makes (v w : View) (address : ℕ) (shape : Shape) : Type 0 where
   pub adds : Adds v w.seen (Make shape.refs shape.nums)
-  pub is : w ≡ view_behind v w.seen
+  pub is : w ≡ view_after v w.seen
       (v.known ++ record { address = address; object = made (v.seen ++ adds.between) } ∷ []) None
 
 -- The call has words from the address on, of which so many are filled.

@@ -30,11 +30,11 @@ use Rattle.melt_rule.specs.declared.view.View.{View}
 abbrev pub Has : List Pair → ℕ → ℕ → Type 0
 Has pairs address n = (i : ℕ) × (get_elem? pairs i ≡ some (record { address = address; object = n }))
 
--- the second history is the first, and more behind it
+-- the second history is the first, and more after it
 abbrev pub Begins : List Entry → List Entry → Type 0
 Begins g h = (more : List Entry) × (g ++ more ≡ h)
 
--- Each object that was made behind the first history has an address.
+-- Each object that was made after the first history has an address.
 abbrev pub MadeStay : List Entry → List Entry → Maps → Type 0
 MadeStay g h maps = (n : ℕ) → made g ≤ n → n < made h → (a : ℕ) × (maps.address a ≡ Some n)
 

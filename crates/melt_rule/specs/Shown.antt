@@ -39,7 +39,7 @@ abbrev pub maps_at : Began → Maps
 maps_at b = record { address = named b.maps.addresses; home = named b.maps.homes }
 
 -- The words of an epoch are, in this order: the stop word, the first free place, the globals, the forwarding words, and
--- the words of the space. Behind the stop word and the first free place stand seven words each that nobody uses, so
+-- the words of the space. After the stop word and the first free place stand seven words each that nobody uses, so
 -- that a line of the cache, which has eight, holds no two of stop word, first free place and globals.
 abbrev pub free_place : ℕ
 free_place = 8
@@ -48,8 +48,8 @@ abbrev pub globals_from : ℕ
 globals_from = 16
 
 -- the words before the globals
-abbrev pub front : (stop free : ℕ) → List ℕ
-front stop free = stop ∷ 0 ∷ 0 ∷ 0 ∷ 0 ∷ 0 ∷ 0 ∷ 0 ∷ free ∷ 0 ∷ 0 ∷ 0 ∷ 0 ∷ 0 ∷ 0 ∷ 0 ∷ []
+abbrev pub leading_words : (stop free : ℕ) → List ℕ
+leading_words stop free = stop ∷ 0 ∷ 0 ∷ 0 ∷ 0 ∷ 0 ∷ 0 ∷ 0 ∷ free ∷ 0 ∷ 0 ∷ 0 ∷ 0 ∷ 0 ∷ 0 ∷ 0 ∷ []
 
 abbrev pub globals_in : Began → List ℕ → List ℕ
 globals_in b words = take b.globals (drop globals_from words)

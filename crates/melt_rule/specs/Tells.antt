@@ -46,7 +46,7 @@ pub record Sees (v : View) (h : List Entry) : Type 0 where
   pub legal : v.began.told ≡ true → Legal h v.began.globals
   pub own_same : own h v.thread ≡ own v.seen v.thread
 
--- The step added an entry of the thread, behind all that was seen before and what others added since.
+-- The step added an entry of the thread, after all that was seen before and what others added since.
 pub record Adds (v : View) (h : List Entry) (act : Act) : Type 0 where
   pub between : List Entry
   pub seen : h ≡ (v.seen ++ between) ++ entry v.thread act ∷ []
@@ -54,9 +54,9 @@ pub record Adds (v : View) (h : List Entry) (act : Act) : Type 0 where
   pub legal : v.began.told ≡ true → Legal h v.began.globals
   pub own_grows : own h v.thread ≡ own v.seen v.thread ++ length (v.seen ++ between) ∷ []
 
--- the view behind a step: of the history, of addresses, and of the call it knows this now
-abbrev pub view_behind : View → List Entry → List Pair → Option Doing → View
-view_behind v h known doing = record v { seen = h; mine = h; known = known; doing = doing; steps = v.steps + 1 }
+-- the view after a step: of the history, of addresses, and of the call it knows this now
+abbrev pub view_after : View → List Entry → List Pair → Option Doing → View
+view_after v h known doing = record v { seen = h; mine = h; known = known; doing = doing; steps = v.steps + 1 }
 
 -- an address in a register stands for the value, by what is known
 abbrev pub Names : List Pair → ℕ → Value → Type 0
@@ -68,12 +68,12 @@ pub record Reads (v w : View) (slot : Slot) (address : ℕ) : Type 0 where
   pub adds : Adds v w.seen (Read slot value)
   pub names : Names w.known address value
   pub more : HasAll v.known w.known
-  pub is : w ≡ view_behind v w.seen w.known None
+  pub is : w ≡ view_after v w.seen w.known None
 
 -- A step without an entry leads to this.
 pub record Reaches (v w : View) (doing : Option Doing) : Type 0 where
   pub sees : Sees v w.seen
-  pub is : w ≡ view_behind v w.seen v.known doing
+  pub is : w ≡ view_after v w.seen v.known doing
 
 -- the search for a home that was found at a place
 abbrev pub search_for : Place → ℕ → Search
@@ -95,12 +95,12 @@ Looks v w slot place (Disk home) = Finds v w slot place home
 -- an entry was added, and the call is over
 pub record Ends (v w : View) (act : Act) : Type 0 where
   pub adds : Adds v w.seen act
-  pub is : w ≡ view_behind v w.seen v.known None
+  pub is : w ≡ view_after v w.seen v.known None
 
 -- The stop word was read. Where it is not set, the seat has no cause to stop.
 abbrev pub Polls : View → View → Bool → Type 0
 Polls v w false = Reaches v w (Some Polled) × (has_cause v ≡ false)
-Polls v w true = Sees v w.seen × (w ≡ record (view_behind v w.seen v.known None) { stopped = true })
+Polls v w true = Sees v w.seen × (w ≡ record (view_after v w.seen v.known None) { stopped = true })
 
 -- the thread has a cause to stop: it keeps the one that it has, or was asked
 abbrev pub caused : View → View
@@ -112,7 +112,7 @@ Stops v w = Reaches v w None
 
 -- and by one that was asked to stop
 abbrev pub Asks : View → View → Type 0
-Asks v w = Sees v w.seen × (w ≡ caused (view_behind v w.seen v.known None))
+Asks v w = Sees v w.seen × (w ≡ caused (view_after v w.seen v.known None))
 
 -- the header of a known object was loaded
 pub record Heads (v w : View) (address n : ℕ) (found : Shape) : Type 0 where

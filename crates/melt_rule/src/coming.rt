@@ -1,7 +1,7 @@
 //! How a load brings an object back from disk while other threads run.
 //!
 //! It reads the forwarding words in the order of the home's search. A word that is filled never changes, so that what
-//! was read stays true, and no word behind an empty one names the home. Where none names it, the call reads the record,
+//! was read stays true, and no word after an empty one names the home. Where none names it, the call reads the record,
 //! claims words, and fills them with a copy that no other thread sees. One exchange of the empty word makes the copy
 //! the object of the home. Of all threads that bring back one home, one wins; the others find its address in the word,
 //! and their copies stay nobody's until the next collection.
@@ -59,7 +59,7 @@ impl Play<u64, View> for ClearStub {
     ghost then = { ClearStubPlay };
 }
 
-/// A Body that was read: its shape, and the words behind its head.
+/// A Body that was read: its shape, and the words after its head.
 pub(crate) trait ReadBody {
     ghost shape: { Shape };
 
@@ -81,7 +81,7 @@ impl<B: ReadBody> Play<u64, View> for ClaimCopy<B> {
     ghost then = { CopyPlay B.shape B.rest };
 }
 
-/// A store of a word of a copy, behind its header.
+/// A store of a word of a copy, after its header.
 pub(crate) struct FillCopy;
 
 impl Play<u64, View> for FillCopy {
@@ -125,7 +125,7 @@ impl Words {
         unpack(self.table.shared.load::<ProbeForward>(seat, at))
     }
 
-    /// The same with a copy at hand, behind a word that another home took.
+    /// The same with a copy at hand, after a word that another home took.
     pub fn retry(&self, seat: &mut Seated, activation: Activation) -> Option<(u32, u32)>
         requires seat { IsSeat self.now seat.old }
         requires retrying { (knows_of seat.old).doing ≡ Some (Retrying activation) }
@@ -213,7 +213,7 @@ impl Words {
         Some(found as u32)
     }
 
-    /// Stores the next word of a copy, of which `stored` words behind the header are stored.
+    /// Stores the next word of a copy, of which `stored` words after the header are stored.
     pub fn fill_copy(&self, seat: &mut Seated, activation: Activation, stored: u32, word: u64)
         requires seat { IsSeat self.now seat.old }
         requires copying { (knows_of seat.old).doing ≡ Some (Copying activation stored) }

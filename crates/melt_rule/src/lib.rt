@@ -26,4 +26,4 @@ pub use began::{Began, Pair, Start};
 pub use ended::EndedWords;
 pub use pass::Pass;
 pub use view::{Away, Doing, View};
-pub use words::{FREE_AT, GLOBALS_AT, Seated, Words, front};
+pub use words::{FREE_AT, GLOBALS_AT, Seated, Words, leading_words};

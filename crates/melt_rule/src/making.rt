@@ -21,7 +21,7 @@ impl Play<u64, View> for Claim {
     ghost then = { ClaimPlay };
 }
 
-/// A store of 0 into a word of the own region, behind its first.
+/// A store of 0 into a word of the own region, after its first.
 pub(crate) struct Fill;
 
 impl Play<u64, View> for Fill {
@@ -54,7 +54,7 @@ impl Words {
         Some(found as u32)
     }
 
-    /// Stores 0 into the next word of the own region, where `k` words behind the first are filled.
+    /// Stores 0 into the next word of the own region, where `k` words after the first are filled.
     pub fn fill(&self, seat: &mut Seated, address: u32, k: u32)
         requires seat { IsSeat self.now seat.old }
         requires region { HasRegion (knows_of seat.old) address (λ z stored. (stored ≡ k) × (k + 1 < cost_of z)) }

@@ -32,7 +32,7 @@ impl Pass {
         }
     }
 
-    /// The pass behind an epoch, with the history that a caller's proof picks from what `from` shows.
+    /// The pass after an epoch, with the history that a caller's proof picks from what `from` shows.
     pub fn note<U>(&mut self, from: &U)
         ghost history: { List Entry }
         ensures { self.new ≡ history }

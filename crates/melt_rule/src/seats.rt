@@ -38,7 +38,7 @@ impl Join<View> for Takes {
 
 impl Words {
     /// Makes words of memory those of an epoch, with a first seat that speaks for all threads. So many of them, the
-    /// last ones, are words of the space, and so many are globals, behind `front`.
+    /// last ones, are words of the space, and so many are globals, after `leading_words`.
     pub fn begin(
         alloc: Global,
         words: &[u64],

@@ -27,7 +27,7 @@ pub enum Doing {
         found: Ref,
         target: u64,
     },
-    /// Words from the address on are for a new object of this shape; so many of those behind its header hold 0.
+    /// Words from the address on are for a new object of this shape; so many of those after its header hold 0.
     Claimed {
         address: u64,
         shape: Shape,
@@ -45,7 +45,7 @@ pub enum Doing {
     Missed {
         search: Search,
     },
-    /// Words were claimed for a copy of its Body, and so many of those behind the header were stored.
+    /// Words were claimed for a copy of its Body, and so many of those after the header were stored.
     Copying {
         activation: Activation,
         stored: u64,
@@ -85,7 +85,7 @@ pub struct View {
     pub known: LinkedList<Pair>,
     /// The call in flight.
     pub doing: Option<Doing>,
-    /// The words of the record that the call read, behind its head.
+    /// The words of the record that the call read, after its head.
     pub rest: LinkedList<u64>,
     /// How many words were claimed.
     pub claimed: u64,

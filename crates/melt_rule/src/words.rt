@@ -1,7 +1,7 @@
 //! The words of an epoch, and each kind of step on them.
 //!
 //! A step is one load, store, fetch-and-add or compare-exchange of one word. What it asks is what its thread has to
-//! know by then; what it tells is the history behind it and what the thread knows from then on.
+//! know by then; what it tells is the history after it and what the thread knows from then on.
 ghost use Rattle.std.specs.Prelude.{true, false, ◌≡◌, ℕ, ◌+◌, ◌<◌, Some};
 ghost use Rattle.melt_model.specs.declared.history.Act.TheVariants.{Read, Write};
 ghost use Rattle.melt_model.specs.declared.history.Slot.TheVariants as slot;
@@ -9,7 +9,7 @@ ghost use Rattle.melt_model.specs.declared.history.Value.{Value};
 ghost use Rattle.melt_model.specs.declared.history.Value.TheVariants.{Num};
 ghost use Rattle.melt_core.specs.declared.call.Place.TheVariants as place;
 ghost use Rattle.melt_rule.specs.Rule.{Has, has_cause, is_reading};
-ghost use Rattle.melt_rule.specs.Shown.{front};
+ghost use Rattle.melt_rule.specs.Shown.{leading_words};
 ghost use Rattle.melt_rule.specs.Seats.{IsSeat, MayGoOn, knows_of, SpeaksOf, HasName};
 ghost use Rattle.melt_rule.specs.Tells.{Asks, Ends, Heads, Looks, Names, Polls, Stops};
 ghost use Rattle.melt_rule.specs.declared.view.Doing.TheVariants.{Polled};
@@ -30,14 +30,14 @@ use std::marker::Model;
 /// Where the first free place stands among the words of an epoch.
 pub const FREE_AT: usize = 8;
 
-/// Where the first global stands, or what stands behind the globals where there is none.
+/// Where the first global stands, or what stands after the globals where there is none.
 pub const GLOBALS_AT: usize = 16;
 
 /// The words before the globals as an epoch begins: the stop word, which is not set, and the first free place. Each
 /// begins a line of the cache of its own, so that a thread that makes an object takes the stop word from no other
 /// thread, which reads it in each call.
-pub fn front(free: u64) -> [u64; GLOBALS_AT]
-    ensures { result ≡ front 0 free }
+pub fn leading_words(free: u64) -> [u64; GLOBALS_AT]
+    ensures { result ≡ leading_words 0 free }
 {
     let mut words = [0; GLOBALS_AT];
     words[FREE_AT] = free;

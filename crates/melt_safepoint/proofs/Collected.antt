@@ -1,4 +1,4 @@
--- A journal grows by collections that were planned or forced, and a run stands behind each of them.
+-- A journal grows by collections that were planned or forced, and a run stands after each of them.
 use Rattle.std.proofs.Common.{◌≡◌, ℕ, ◌+◌, ◌<◌, ◌≤◌, suc, true, false, List, [], ◌∷◌, ◌++◌, length}
 use Rattle.std.proofs.Common.{refl, sym, ◌∙◌, ap, subst, arith, length-append, inl, inr}
 use Rattle.std.specs.Prelude.{Bool, Option, None, Some}
@@ -46,7 +46,7 @@ use Rattle.melt_safepoint.proofs.Moments.{counts_now, moment_now}
 use Rattle.melt_safepoint.proofs.Tables.{Table_renewed}
 use Rattle.melt_safepoint.proofs.WordsMade.{made_collected, run_within}
 
--- the disk ends within its limit behind a collection
+-- the disk ends within its limit after a collection
 ends_within : {phase : Phase} {shown later : Shown} {v w : View} {old new : Collector}
     → CollectsCore phase shown later v w old new → shown.end ≤ shown.limit → later.end ≤ shown.limit
 ends_within {phase} {shown} collects within = elim (phase_cases phase) [
@@ -54,7 +54,7 @@ ends_within {phase} {shown} collects within = elim (phase_cases phase) [
   | inr other ↦ subst (λ (n : ℕ). n ≤ shown.limit) (sym (collects.stays other)) within
 ]
 
--- behind a collection the next one is planned by it
+-- after a collection the next one is planned by it
 plan_more : (config : Config) {phase : Phase} {shown later : Shown} {v w : View} {old new : Collector} (was : Phase)
     → old.plan ≡ plan_for config was → CollectsCore phase shown later v w old new → length v.space.list ≡ config.heap
     → {last : Option Journal} → {entry : Journal} → last ≡ Some entry → entry.phase ≡ phase
@@ -67,7 +67,7 @@ plan_more config {phase} {v} was plan collects words {entry} is of_phase after =
     ∙ (ap (λ (p : Phase). plan_for config (by config.heap p)) (sym of_phase)
     ∙ ap (λ (o : Option Journal). plan_for config (next_of config o)) (sym is))))
 
--- what a collector knows behind one collection more
+-- what a collector knows after one collection more
 pub collector_more : {config : Config} (force : Bool) {shown later : Shown} {v w : View} {old new : Collector}
     → CollectorStands config shown old → CollectsCore (phase_done force old.plan.next) shown later v w old new
     → length v.space.list ≡ config.heap → (force ≡ true → IsTight config (last_of old))
@@ -131,7 +131,7 @@ pub collected_over : {unpaid : ℕ} {told : Bool} {script : Script} {config : Co
 collected_over {unpaid} {told} stands made =
     (stands, made, made.collects.each told stands.disk stands.under stands.table.stands)
 
--- all threads stand behind a collection
+-- all threads stand after a collection
 pub collected_table : {unpaid : ℕ} {told : Bool} {script : Script} {config : Config} {force : Bool}
     {shown later : Shown} {old new : Row} → (over : Over unpaid told script config force shown later old new)
     → TableStands told script config over.2.disk new.view new.states
@@ -163,7 +163,7 @@ journal_more {force} {shown} {later} {old} {new} made =
       journal_count made.collects,
     )
 
--- a collection that is planned is of the phase that was planned behind the one before
+-- a collection that is planned is of the phase that was planned after the one before
 pub planned_one : {unpaid : ℕ} {told : Bool} {script : Script} {config : Config} {shown later : Shown} {old new : Row}
     → StandsBut unpaid told script config shown old → MakesCollection false shown later old new
     → Planned config 1 (journal_of old) (journal_of new)
@@ -195,7 +195,7 @@ spare_collected {script} {config} {old} {new} stands made =
     (counts_spare script config old.states (length old.collector.journal.items)
     (length new.collector.journal.items) (journal_more made) stands.counts)
 
--- a run stands behind a collection, which is still to be paid for
+-- a run stands after a collection, which is still to be paid for
 pub stands_collected : {unpaid : ℕ} {told : Bool} {script : Script} {config : Config} {force : Bool}
     {shown later : Shown} {old new : Row} → StandsBut unpaid told script config shown old
     → MakesCollection force shown later old new → (force ≡ true → IsTight config (last_of old.collector))
@@ -226,11 +226,11 @@ stands_collected {unpaid} {told} {script} {config} {force} {shown} {later} {old}
           (journal_more made) owes.few owes.open_ stands.counts);
     }
 
--- it was just made, also behind a thread that dropped its registers
-pub just_behind : (force : Bool) (shown later : Shown) (old mid new : Row) → MakesCollection force shown later old mid
+-- it was just made, also after a thread that dropped its registers
+pub just_after : (force : Bool) (shown later : Shown) (old mid new : Row) → MakesCollection force shown later old mid
     → new.collector ≡ mid.collector → new.view.free ≡ mid.view.free → new.view.forward ≡ mid.view.forward
     → JustCollected new
-just_behind force shown later old mid new made collector free forward = record {
+just_after force shown later old mid new made collector free forward = record {
   none_forwarded = subst (λ (xs : List ℕ). NoneForwarded (record new.view { forward = xs })) (sym forward)
       made.collects.none_forwarded;
   prefix = old.collector.journal.items;
@@ -242,7 +242,7 @@ just_behind force shown later old mid new made collector free forward = record {
 -- it was just made
 pub just_collected : (force : Bool) (shown later : Shown) (old new : Row) → MakesCollection force shown later old new
     → JustCollected new
-just_collected force shown later old new made = just_behind force shown later old new new made refl refl refl
+just_collected force shown later old new made = just_after force shown later old new new made refl refl refl
 
 -- a run between two epochs may be collected
 pub may_collect : {unpaid : ℕ} (told : Bool) (script : Script) (config : Config) (shown : Shown) (run : Row)

@@ -1,4 +1,4 @@
--- The collections for which threads wait: each goes on behind its own.
+-- The collections for which threads wait: each goes on after its own.
 use Rattle.std.specs.Prelude.{Option, Some, slice_get}
 use Rattle.std.proofs.Common.{◌≡◌, ℕ, ◌<◌, suc, true, false, ◌⊎◌, List, [], ◌∷◌, ◌++◌, length, length-append, refl}
 use Rattle.std.proofs.Common.{sym, ◌∙◌, ap, subst, arith, inl, inr}
@@ -18,7 +18,7 @@ use Rattle.melt_safepoint.specs.declared.thread.Mode.{Mode}
 use Rattle.melt_safepoint.specs.declared.thread.Mode.TheVariants.{Running, Due, Silent, Collecting, Asked, Lacking}
 use Rattle.melt_safepoint.specs.declared.thread.Mode.TheVariants.{Ended}
 use Rattle.melt_safepoint.specs.Passing.{CollectedFor}
-use Rattle.melt_safepoint.specs.Threads.{DueBy, GoesOn, TakesReply, jobs_of, left, with_first}
+use Rattle.melt_safepoint.specs.Threads.{DueBy, RunsOrEnds, TakesReply, jobs_of, left, with_first}
 use Rattle.melt_safepoint.specs.Modes.{ForCollection, HadNoRoom, IsEnded, IsPaused, collections_for, jobs, lost, owes, owes_silent}
 use Rattle.melt_safepoint.specs.Endings.{HaveMoments}
 use Rattle.melt_safepoint.specs.Losses.{losses}
@@ -37,18 +37,18 @@ moments_reply {script} {config} log states t {s} after extra journal at goes gro
     (none_set states t s after at room) moments)
 
 -- it only has another mode
-pub goes_on_mode : (s after : ThreadState) → GoesOn s after → (mode : Mode) × (after ≡ record s { mode = mode })
+pub goes_on_mode : (s after : ThreadState) → RunsOrEnds s after → (mode : Mode) × (after ≡ record s { mode = mode })
     × (owes mode ≡ 0) × (lost mode ≡ 0) × (HadNoRoom mode → ⊥)
 goes_on_mode s after on = elim on [
   | inl runs ↦ (Running, runs.1, refl, refl, λ none. none)
   | inr ended ↦ (Ended end.Done, ended.1, refl, refl, λ none. none)
 ]
 
--- How a thread goes on behind the collection for which it waited.
+-- How a thread goes on after the collection for which it waited.
 pub record TakesCollection (every : ℕ) (s after : ThreadState) : Type 0 where
   pub takes : s.mode ≡ Collecting → TakesReply s after reply.Done
   pub due : s.mode ≡ Collecting → DueBy every s after
-  pub silent : s.mode ≡ Silent → GoesOn s after
+  pub silent : s.mode ≡ Silent → RunsOrEnds s after
 
 -- a thread that waits for a collection waits for a silent one or for its own
 pub waits_cases : (mode : Mode) → ForCollection mode → (mode ≡ Silent) ⊎ (mode ≡ Collecting)
@@ -98,7 +98,7 @@ answered_fewer s after mode next takes =
     }
 
 -- and so has one that goes on
-goes_on_fewer : (s after : ThreadState) → s.mode ≡ Silent → GoesOn s after → CollectedFor s after
+goes_on_fewer : (s after : ThreadState) → s.mode ≡ Silent → RunsOrEnds s after → CollectedFor s after
 goes_on_fewer s after mode on =
     let n : ℕ = length (left s) in
     let had : jobs_of s ≡ jobs Silent n = jobs_by s Silent n mode refl in

@@ -6,7 +6,7 @@ use Rattle.melt_io.specs.Outside.{Rose}
 use Rattle.melt_model.specs.declared.config.Config.{Config}
 use Rattle.melt_trace.specs.Script.{Script}
 use Rattle.melt_safepoint.specs.declared.thread.ThreadState.{ThreadState}
-use Rattle.melt_safepoint.specs.Threads.{AllWait, OweBehindCollects, SomeGoesOn}
+use Rattle.melt_safepoint.specs.Threads.{AllWait, OweAfterCollects, SomeGoesOn}
 use Rattle.melt_safepoint.specs.Passing.{WaitsForRoom, CollectedAll, NoneOwn}
 use Rattle.melt_safepoint.specs.Shown.{Shown}
 use Rattle.melt_safepoint.specs.Losses.{CountsLosses}
@@ -19,7 +19,7 @@ use Rattle.melt_safepoint.specs.Rows.{AwaitsCall, JustCollected, KeepsRun, Makes
 use Rattle.melt_safepoint.specs.Rows.{Row, RunStands, StandsBut, StopCounts, StopsBut, StopsForced, StopsRun}
 use Rattle.melt_safepoint.specs.Makes.{if_none_was}
 use Rattle.melt_safepoint.proofs.Collected.{just_collected, planned_one, stands_collected}
-use Rattle.melt_safepoint.proofs.MakingAgain.{owe_behind}
+use Rattle.melt_safepoint.proofs.MakingAgain.{owe_after}
 use Rattle.melt_safepoint.proofs.Safepoints.{none_own}
 
 -- a count that has risen since then, has risen since before
@@ -55,7 +55,7 @@ pub stops_paid : (shown later : Shown) (run : Row) (stop : Stop) → StopsBut sh
     → StopsRun shown later run stop
 stops_paid shown later run stop stops told script config stands = stops told script config (0, stands)
 
--- a run stands behind a collection that was planned, which is still to be paid for
+-- a run stands after a collection that was planned, which is still to be paid for
 planned_keeps : {shown later : Shown} {old new : Row} → MakesCollection false shown later old new
     → SomeGoesOn old.states → (told : Bool) (script : Script) (config : Config) → RunStands told script config shown old
     → StandsBut 1 told script config later new
@@ -82,7 +82,7 @@ same_keeps shown run some told script config stands = record {
       (overs_less run.states some.0 some.1.0 some.1.1 some.1.2) stands.counts;
 }
 
--- How a run stands before the call that is made first: behind a collection, with the threads as all collections left
+-- How a run stands before the call that is made first: after a collection, with the threads as all collections left
 -- them.
 pub record BeforeCall (due : ℕ) (shown later : Shown) (mid run : Row) : Type 0 where
   pub keeps : (told : Bool) (script : Script) (config : Config) → RunStands told script config shown mid
@@ -126,8 +126,8 @@ pub awaits_call : {due : ℕ} {shown mid_shown later : Shown} {old mid run : Row
 awaits_call {old} {mid} t keeps waits all before lacks told script config stands = record {
   stands = before.keeps told script config (keeps told script config stands);
   few = omega arith;
-  owed = subst (OweBehindCollects script) (sym before.states)
-      (owe_behind stands.table waits all);
+  owed = subst (OweAfterCollects script) (sym before.states)
+      (owe_after stands.table waits all);
   collected = before.just;
   own = subst NoneOwn (sym before.states) (none_own old.states mid.states all);
   waits = subst (λ (states : List ThreadState). WaitsForRoom states t) (sym before.states) lacks;

@@ -129,12 +129,12 @@ quotient_same m n q p d some = elim (cases_lt q p) [
   ]
 ]
 
--- behind a reply whose number is a multiple one silent collection more
+-- after a reply whose number is a multiple one silent collection more
 silent_due : (every n : ℕ) → every ≢ 0 → (n + 1) % every ≡ 0 → silent_in every (n + 1) ≡ silent_in every n + 1
 silent_due zero n some divides = absurd (some refl)
 silent_due (suc e) n some divides = quotient_more (suc e) n (n / suc e) ((n + 1) / suc e) (divided e n) divides
 
--- and none behind another
+-- and none after another
 silent_not : (every n : ℕ) → (every ≢ 0 → (n + 1) % every ≡ 0 → ⊥) → silent_in every (n + 1) ≡ silent_in every n
 silent_not zero n not = refl
 silent_not (suc e) n not =
@@ -154,7 +154,7 @@ due_cases Asked = inr (λ is. cc)
 due_cases Lacking = inr (λ is. cc)
 due_cases (Ended e) = inr (λ is. cc)
 
--- a reply brings a silent collection exactly where one is due behind it
+-- a reply brings a silent collection exactly where one is due after it
 pub silent_told : (config : Config) (s after : ThreadState) (reply : Reply) → DueBy config.every s after
     → TakesReply s after reply → silent_in config.every (length s.replies.items + 1) ≡ silent_in config.every
     (length s.replies.items) + owes after.mode

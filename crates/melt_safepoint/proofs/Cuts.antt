@@ -61,7 +61,7 @@ IsCut_later {script} {log} more {states} {after} {cut} later gone is = record {
   few = λ u.
       let extra : (rs : List Reply) × (replies_of after u ≡ replies_of states u ++ rs) = later.replies u in
       omega (arith, is.few u, ap length extra.1, length-append (replies_of states u) extra.0);
-  told = λ u.
+  transcripts = λ u.
       let extra : (rs : List Reply) × (replies_of after u ≡ replies_of states u ++ rs) = later.replies u in
       let history : take cut.entries (log ++ more) ≡ take cut.entries log =
       take-append-le cut.entries log more is.within in
@@ -70,7 +70,7 @@ IsCut_later {script} {log} more {states} {after} {cut} later gone is = record {
       subst (λ (h : List Entry). Transcript h u (operations script u) (take (cut.replies u) (replies_of after u)))
       (sym history)
       (subst (λ (rs : List Reply). Transcript (take cut.entries log) u (operations script u) rs) (sym replies)
-      (is.told u));
+      (is.transcripts u));
   last = λ u ended. is.last u ended ∙ ap length (sym (same_replies states after cut u later gone ended));
   over = is.over;
 }

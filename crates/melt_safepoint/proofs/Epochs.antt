@@ -47,7 +47,7 @@ goes_keeps told script config shown old new goes stands settled own = elim goes 
   | inr runs ↦ runs.keeps told script config (stands, settled, own)
 ]
 
--- behind it all threads rest
+-- after it all threads rest
 pub goes_rests : (shown : Shown) (old new : Row) → GoesOnFrom shown old new → RestsWell new.states
 goes_rests shown old new goes = elim goes [
   | inl over ↦ subst (λ (run : Row). RestsWell run.states) (sym over.1) (ended_rests old.states over.0)

@@ -1,4 +1,4 @@
--- What is said of a collection behind an epoch that ended is said of the view in which it ended.
+-- What is said of a collection after an epoch that ended is said of the view in which it ended.
 use Rattle.std.proofs.Common.{◌≡◌, ℕ, ◌≤◌, zero, suc, List, get_or, length, refl, sym, ◌∙◌, ap, subst, Bool}
 use Rattle.std.proofs.Common.{false}
 use Rattle.std.specs.Prelude.{Option}
@@ -65,7 +65,7 @@ gathers_same v w entry log same is = record {
 
 module _ (v x : View) (finished : HasFinished v x)
     (rests : (told : Bool) (disk : OnDisk) → Standing told disk v → Standing told disk x) where
-  -- what may be collected may be so behind the epoch
+  -- what may be collected may be so after the epoch
   pub finished_may : (finish : ℕ) → IsQuiet x → MayCollect finish v → MayCollect finish x
   finished_may finish quiet may = record {
     disk = may.disk;
@@ -74,7 +74,7 @@ module _ (v x : View) (finished : HasFinished v x)
     quiet = quiet;
   }
 
-  -- what begins anew behind it
+  -- what begins anew after it
   finished_renewed : (told : Bool) (disk : OnDisk) (w : View) → Renewed told disk x w → Renewed told disk v w
   finished_renewed told disk w renewed = record {
     stands = renewed.stands;

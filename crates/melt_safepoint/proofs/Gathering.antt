@@ -77,7 +77,7 @@ module _ (told : Bool) (phase : Phase) (disk : OnDisk) (heap new : Heap) (b : Be
       held_costs y.log (value y) (maps y) (state c.between y) (placed_told told c.between y c.at_mid.stands tells)
       journal.held c.was.held_words
 
-  -- and those in use behind it are those of the objects in use
+  -- and those in use after it are those of the objects in use
   live_sum : CostsSum (words_of w.log) (InUse (maps w)) journal.live
   live_sum =
       in_use_costs w.log (value w) (maps w) (state c.was.later w) journal.live
@@ -162,7 +162,7 @@ end_stays {phase = Inactive} planned stays = planned.collects.end_stays
 end_stays {phase = Mark} planned stays = planned.collects.end_stays
 end_stays {phase = Move} planned stays = absurd (stays refl)
 
--- where a push did not fail, its value stands behind the others
+-- where a push did not fail, its value stands after the others
 pub when_pushed : {T E : Type 0} (r : Result T E) (now was all : List Journal) → is_err r ≡ false
     → now ≡ (if is_ok r then all else was) → now ≡ all
 when_pushed (Ok x) now was all passed is = is

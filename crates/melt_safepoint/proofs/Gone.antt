@@ -77,7 +77,7 @@ gone_lacks true {old} {t} held {need} {s} was lacks no_room holds is =
 gone_lacks false {old} {t} held {need} {s} was lacks no_room holds is =
     absurd (let wrong : false ≡ true = is in cc)
 
--- so the run stands behind it
+-- so the run stands after it
 pub gone_stands : {told : Bool} {script : Script} {config : Config} {shown : Shown} {forced : ℕ} {old new : Row}
     {t held need : ℕ} → LacksWords told script config shown forced old t need
     → (told ≡ true → NoRoom config old.view need) → EndsCall old new t held need
@@ -129,13 +129,13 @@ gone_lost {old} {new} {t} {held} {need} e =
     ∙ losses_same old.states t e.s (record e.s { mode = Ended (end.OutOfHeap held need) }) e.was.at
     (sym (ap lost e.was.lacking))
 
--- no forwarding word is filled behind it, where none was
+-- no forwarding word is filled after it, where none was
 pub gone_settled : {old new : Row} {t need : ℕ} → EndsForRoom old new t need → NoneForwarded old.view
     → NoneForwarded new.view
 gone_settled {old} {new} {t} {need} gone none =
     subst (λ (v : View). NoneForwarded v) (sym gone.drops.only) none
 
--- no thread waits for a collection behind it, where none did
+-- no thread waits for a collection after it, where none did
 pub gone_own : {old new : Row} {t need : ℕ} → EndsForRoom old new t need → NoneOwn old.states → NoneOwn new.states
 gone_own {old} {new} {t} {need} gone own = λ u x at for.
     let after : ThreadState = record gone.s { mode = Ended (end.OutOfHeap gone.held need) } in

@@ -75,9 +75,9 @@ told_goes s after reply takes paused = elim takes.fits [
 ]
 
 -- a thread that waited for room, and was set to a state that has less to do
-pub called_at : {states behind : List ThreadState} {t : ℕ} {s after : ThreadState} → IsLacking states t s
-    → behind ≡ set states t after → Frees s after → CalledAt states behind t
-called_at {states} {behind} {t} {s} {after} was is frees = λ x here. (
+pub called_at : {states later : List ThreadState} {t : ℕ} {s after : ThreadState} → IsLacking states t s
+    → later ≡ set states t after → Frees s after → CalledAt states later t
+called_at {states} {later} {t} {s} {after} was is frees = λ x here. (
   after,
   is,
   subst (λ (z : ThreadState). jobs_of after < jobs_of z) (same_Some s x (sym was.at ∙ here)) frees.fewer,

@@ -1,4 +1,4 @@
--- A call that was made first, and alone, lacked words: what is known behind it.
+-- A call that was made first, and alone, lacked words: what is known after it.
 use Rattle.std.proofs.Common.{◌≡◌, ℕ, ◌+◌, ◌<◌, ◌≤◌, zero, suc, true, List, length, refl, sym, ◌∙◌, ap, subst, arith}
 use Rattle.std.specs.Prelude.{Bool, Some, slice_get}
 use Rattle.melt_model.specs.Alive.{Held, words_of, CostsSum}
@@ -16,23 +16,23 @@ use Rattle.melt_safepoint.specs.Passing.{NoneOwn, WaitsForRoom}
 use Rattle.melt_safepoint.specs.Rows.{AwaitsCall, JustCollected, LacksBy, LacksWords, LeftBy, OnlyHeld, Row, StandsBut}
 use Rattle.melt_safepoint.specs.Rows.{last_of}
 use Rattle.melt_safepoint.specs.Shown.{Shown}
-use Rattle.melt_safepoint.specs.Threads.{OweBehindCollects}
+use Rattle.melt_safepoint.specs.Threads.{OweAfterCollects}
 use Rattle.melt_safepoint.specs.declared.collector.Collector.{Collector}
 use Rattle.melt_safepoint.specs.declared.thread.ThreadState.{ThreadState}
 use Rattle.melt_safepoint.proofs.Cuts.{held_words_same, needs_same}
 use Rattle.melt_safepoint.proofs.Journals.{before_end}
 
--- behind a collection that left a claim of a call no room, an object of the largest size may have none
-tight_behind : (config : Config) (run : Row) (words need : ℕ) → JustCollected run → words ≡ config.heap
+-- after a collection that left a claim of a call no room, an object of the largest size may have none
+tight_after : (config : Config) (run : Row) (words need : ℕ) → JustCollected run → words ≡ config.heap
     → words + 1 < run.view.free + need → need ≤ 126 → IsTight config (last_of run.collector)
-tight_behind config run words need collected is above small =
+tight_after config run words need collected is above small =
     let last : last_of run.collector ≡ Some collected.last =
     ap (λ (js : List Journal). before js (length js)) collected.journal
     ∙ before_end collected.prefix collected.last in
     let tight : config.heap < collected.last.live + 126 = omega (arith, above, small, is, collected.free) in
     subst (IsTight config) (sym last) tight
 
--- what the Moves that were forced tell of a call that lacked words behind them
+-- what the Moves that were forced tell of a call that lacked words after them
 left_by : (config : Config) (forced : ℕ) (v w : View) (need : ℕ) → LeftBy forced v → (AllMarked v → AllMarked w)
     → w.log ≡ v.log → ((u r : ℕ) → value w u r ≡ value v u r) → config.heap + 1 < v.free + need
     → LacksBy config forced w need
@@ -73,12 +73,12 @@ lacks_words {told} {script} {config} {shown} {forced} {old} {new} {t} {need} awa
     record {
       stands = stands;
       few = awaits.few;
-      owed = subst (OweBehindCollects script) (sym is.states) awaits.owed;
+      owed = subst (OweAfterCollects script) (sym is.states) awaits.owed;
       own = subst NoneOwn (sym is.states) awaits.own;
       none_forwarded = is.none_forwarded;
       waits = subst (λ (xs : List ThreadState). WaitsForRoom xs t) (sym is.states) awaits.waits;
       tight = subst (λ (c : Collector). IsTight config (last_of c)) (sym is.collector)
-          (tight_behind config old config.heap need awaits.collected refl is.above is.small);
+          (tight_after config old config.heap need awaits.collected refl is.above is.small);
       op = is.op;
       next = λ x at. is.next x (ap (λ (xs : List ThreadState). slice_get xs t) (sym is.states) ∙ at);
       needs = λ tells. subst (λ (h : List Entry). NeedsWords h (value w) t is.op need) (sym is.history)

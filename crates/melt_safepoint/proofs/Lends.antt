@@ -75,7 +75,7 @@ lends_more n less lends = record {
   rises = lends.rises;
 }
 
--- and so behind collections that were made meanwhile
+-- and so after collections that were made meanwhile
 pub lends_since : {k m a b c : ℕ} (js : List Journal) {mid later : List Journal} → b ≡ a → length js ≤ length mid
     → LendsFew k m b c mid later → LendsFew k m a c js later
 lends_since {a} {b} {c} js same grows lends = record {
@@ -97,7 +97,7 @@ lends_then {k} {a} {b} {c} first second = record {
   rises = risen_then a b c first.rises second.rises;
 }
 
--- a collection that was made pays for an epoch behind it
+-- a collection that was made pays for an epoch after it
 pub lends_after : {k : ℕ} (m : ℕ) {a b c : ℕ} (js : List Journal) {mid later : List Journal} → b ≡ a
     → length js + 1 ≤ length mid → LendsFew k (m + 1) b c mid later → LendsFew k m a c js later
 lends_after m {a} {b} {c} js same paid lends = record {

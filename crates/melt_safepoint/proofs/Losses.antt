@@ -59,7 +59,7 @@ halted_lost Asked = refl
 halted_lost Lacking = refl
 halted_lost (Ended e) = refl
 
--- the first thread, and those behind it
+-- the first thread, and those after it
 losses_first : (s : ThreadState) (states : List ThreadState) → losses (s ∷ states) ≡ lost s.mode + losses states
 losses_first s states =
     let f : ThreadState → ℕ = λ (x : ThreadState). lost x.mode in
@@ -97,9 +97,9 @@ counts_set states t s after a b at counts = record {
 -- they are counted by their number alone
 pub counts_by : (states states' after after' : List ThreadState) (a b : ℕ) → losses states' ≡ losses states
     → losses after' ≡ losses after → CountsLosses states after a b → CountsLosses states' after' a b
-counts_by states states' after after' a b before behind counts = record {
+counts_by states states' after after' a b before later counts = record {
   counted = elim counts.counted [
-    | inl few ↦ inl (omega (arith, few, before, behind))
+    | inl few ↦ inl (omega (arith, few, before, later))
     | inr full ↦ inr full
   ];
   rises = counts.rises;
@@ -118,7 +118,7 @@ rises_open a b f g first second = elim second [
     far : (b f g end : ℕ) → end ≤ b + f → f ≤ g → end ≤ b + g
     far b f g end past on = omega (arith, past, on)
 
--- On one reader behind others, of which so many faults were counted already: those that were lost meanwhile are counted
+-- On one reader after others, of which so many faults were counted already: those that were lost meanwhile are counted
 -- with the rest.
 pub counts_open : {states mid after : List ThreadState} {a : ℕ} (b : ℕ) {f g : ℕ} → CountsLosses states mid a (b + f)
     → CountsLosses mid after f g → CountsLosses states after a (b + g)
@@ -220,7 +220,7 @@ pub record CountsBefore (states after : List ThreadState) (faults faults_after r
   pub count : faults ≤ faults_after
   pub lost : CountsLosses states after reads reads_after
 
--- behind one collection more, no thread more is lost, and no read more failed
+-- after one collection more, no thread more is lost, and no read more failed
 pub counts_made : {states mid after : List ThreadState} (a b c : ℕ) {x y z : ℕ} → after ≡ mid → a ≤ b → b ≤ c
     → CountsLosses states mid x y → z ≡ y → CountsBefore states after a c x z
 counts_made {states} {after} a b c {x} {y} same first second lost reads = record {

@@ -18,7 +18,7 @@ use Rattle.melt_core.specs.Views.{View, IsQuiet}
 use Rattle.melt_safepoint.specs.declared.thread.ThreadState.{ThreadState}
 use Rattle.melt_safepoint.specs.declared.thread.Mode.TheVariants.{Running}
 use Rattle.melt_safepoint.specs.Modes.{lost, owes_silent}
-use Rattle.melt_safepoint.specs.Threads.{NoneWaits, AllWait, OweBehindCollects, with_first}
+use Rattle.melt_safepoint.specs.Threads.{NoneWaits, AllWait, OweAfterCollects, with_first}
 use Rattle.melt_safepoint.specs.Endings.{HaveMoments}
 use Rattle.melt_safepoint.specs.Losses.{losses}
 use Rattle.melt_safepoint.specs.Passing.{CollectedFor, CollectedAll, Resumed, NoneOwn}
@@ -154,11 +154,11 @@ again_knows states after n v again all own none = record {
       ];
 }
 
--- behind the collections, silent ones are still to come only where a `collect` was answered just now
-pub owe_behind : {told : Bool} {script : Script} {config : Config} {disk : OnDisk} {v : View}
+-- after the collections, silent ones are still to come only where a `collect` was answered just now
+pub owe_after : {told : Bool} {script : Script} {config : Config} {disk : OnDisk} {v : View}
     {states mid : List ThreadState} → TableStands told script config disk v states → AllWait states
-    → CollectedAll states mid → OweBehindCollects script mid
-owe_behind {told} {script} {v} {states} {mid} table waits all = λ t x at owes. elim (slice_get_cases states t).1 [
+    → CollectedAll states mid → OweAfterCollects script mid
+owe_after {told} {script} {v} {states} {mid} table waits all = λ t x at owes. elim (slice_get_cases states t).1 [
   | inl w ↦
       let s : ThreadState = w.0 in
       let st : ThreadStands told script v t s = table.each t s w.2 in

@@ -100,7 +100,7 @@ told_fits s after reply takes =
       ]
     ]
 
--- if a silent collection is due behind the reply, it is by the number of replies
+-- if a silent collection is due after the reply, it is by the number of replies
 pub told_due : (config : Config) (s after : ThreadState) (reply : Reply) → DueBy config.every s after
     → TakesReply s after reply → owes_silent after.mode ≡ true → IsDue config (length after.replies.items)
 told_due config s after reply due takes owes =

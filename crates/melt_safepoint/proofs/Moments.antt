@@ -34,7 +34,7 @@ use Rattle.melt_safepoint.specs.Asked.{collections, total}
 use Rattle.melt_safepoint.specs.Counts.{CountsCollections, answers}
 use Rattle.melt_safepoint.specs.Cuts.{CountsBy, Cut, EndsWithCollect, IsCut, IsCutAt, IsDue, IsMoment, LacksRoom}
 use Rattle.melt_safepoint.specs.Cuts.{collection, open_by, replies_at, replies_by}
-use Rattle.melt_safepoint.specs.Threads.{with_first, HadCollect, OweBehindCollects, owing, replies_of}
+use Rattle.melt_safepoint.specs.Threads.{with_first, HadCollect, OweAfterCollects, owing, replies_of}
 use Rattle.melt_safepoint.specs.Modes.{owes_silent, FitsMode, IsEnded, owes}
 use Rattle.melt_safepoint.specs.Endings.{gone_in, has_gone, now}
 use Rattle.melt_safepoint.proofs.Asked.{asked_same, collections_same}
@@ -42,7 +42,7 @@ use Rattle.melt_safepoint.proofs.Cuts.{replies_here, replies_past, registers_by,
 use Rattle.melt_safepoint.proofs.Cuts.{gone_cases, gone_here, gone_past, owes_last, none_next}
 use Rattle.melt_safepoint.proofs.Cuts.{words_same, held_words_same, needs_same, first_left}
 use Rattle.melt_safepoint.specs.Collections.{Gathers}
-use Rattle.melt_safepoint.specs.Tables.{IsTold, ThreadStands, TableStands}
+use Rattle.melt_safepoint.specs.Tables.{RepliesStand, ThreadStands, TableStands}
 
 -- a thread that is none has no entry
 own_none : (p : ℕ) (h : List Entry) (n u : ℕ) → n ≤ u → AllByRecursion (λ (e : Entry). e.thread < n) h
@@ -60,10 +60,10 @@ told_now script config disk v states u table =
     let ops : List Op = operations script u in
     elim (slice_get_cases states u).1 [
       | inl w ↦
-          let stands : IsTold script v u w.0 = (table.each u w.0 w.2).is_told refl in
+          let stands : RepliesStand script v u w.0 = (table.each u w.0 w.2).replies_stand refl in
           let k : ℕ = length w.0.replies.items in
           let so_far : Transcript v.log u (take k ops ++ drop k ops) w.0.replies.items =
-          Transcript_so_far v.log u (take k ops) (drop k ops) w.0.replies.items stands.registers stands.told in
+          Transcript_so_far v.log u (take k ops) (drop k ops) w.0.replies.items stands.registers stands.stands in
           subst (λ (rs : List Reply). Transcript v.log u ops rs) (sym (replies_here states u w.0 w.2))
           (subst (λ (os : List Op). Transcript v.log u os w.0.replies.items) (take-append-drop k ops) so_far)
       | inr w ↦
@@ -90,7 +90,7 @@ pub IsCut_now : (script : Script) (config : Config) (disk : OnDisk) (v : View) (
 IsCut_now script config disk v states table = record {
   within = omega arith;
   few = λ u. omega arith;
-  told = λ u.
+  transcripts = λ u.
       subst (λ (h : List Entry). Transcript h u (operations script u)
       (take (length (replies_of states u)) (replies_of states u))) (sym (take-length v.log))
       (subst (λ (rs : List Reply). Transcript v.log u (operations script u) rs)
@@ -108,9 +108,9 @@ IsCut_now script config disk v states table = record {
   ];
 }
 
--- where silent collections are still to come only behind a collection, so are those behind the last operations
+-- where silent collections are still to come only after a collection, so are those after the last operations
 over_alone : (script : Script) (config : Config) (disk : OnDisk) (v : View) (states : List ThreadState) (u : ℕ)
-    → TableStands true script config disk v states → OweBehindCollects script states
+    → TableStands true script config disk v states → OweAfterCollects script states
     → length (replies_of states u) ≡ length (operations script u) → ((now v.log states).ended u ≡ true)
     ⊎ (IsDue config (length (operations script u)) × EndsWithCollect (operations script u))
 over_alone script config disk v states u table owe all = elim (slice_get_cases states u).1 [
@@ -142,7 +142,7 @@ pub state_value : (script : Script) (v : View) (u r : ℕ) (s : ThreadState) →
     → (if has_gone s.mode then Nil else value_in
     (registers_after v.log u (operations script u) (length s.replies.items)) r) ≡ value v u r
 state_value script v u r s st =
-    let stands : IsTold script v u s = st.is_told refl in
+    let stands : RepliesStand script v u s = st.replies_stand refl in
     let ops : List Op = operations script u in
     let k : ℕ = length s.replies.items in
     let by_history : Value = value_in (registers_after v.log u ops k) r in
@@ -154,8 +154,8 @@ state_value script v u r s st =
           let told : registers_after v.log u ops k ≡ stands.registers =
           ap (λ (os : List Op). registers_after v.log u os k) (sym (take-append-drop k ops))
           ∙ (ap (registers_after v.log u (take k ops ++ drop k ops))
-          (one_reply_each v.log u (take k ops) s.replies.items stands.registers stands.told)
-          ∙ registers_so_far v.log u (take k ops) (drop k ops) s.replies.items stands.registers stands.told) in
+          (one_reply_each v.log u (take k ops) s.replies.items stands.registers stands.stands)
+          ∙ registers_so_far v.log u (take k ops) (drop k ops) s.replies.items stands.registers stands.stands) in
           let held : stands.registers ≡ values_of v u = elim stands.in_registers [
             | inl ended ↦ absurd (goes.0 ended)
             | inr same ↦ same
@@ -282,7 +282,7 @@ counts_now script config unpaid log states made count counts =
           (omega (arith, counts.bounded, counts.pays, told, count));
     }
 
--- the next operation of a thread is that of the script behind its replies
+-- the next operation of a thread is that of the script after its replies
 pub next_op : {told : Bool} {script : Script} {config : Config} {disk : OnDisk} {v : View} {states : List ThreadState}
     (t : ℕ) {s : ThreadState} {o : Op} → TableStands told script config disk v states → slice_get states t ≡ Some s
     → s.op ≡ Some o → slice_get (operations script t) (length (replies_of states t)) ≡ Some o
@@ -295,7 +295,7 @@ next_op {script} {states} t {s} {o} table at next =
 -- now: the next operation of a thread needs more words than there are beside those that registers hold
 pub lacks_room : {script : Script} {config : Config} {disk : OnDisk} {v : View} {states : List ThreadState} (t need : ℕ)
     {held_words : ℕ} {o : Op} {s : ThreadState} → TableStands true script config disk v states
-    → slice_get states t ≡ Some s → (IsEnded s.mode → ⊥) → OweBehindCollects script states → s.op ≡ Some o
+    → slice_get states t ≡ Some s → (IsEnded s.mode → ⊥) → OweAfterCollects script states → s.op ≡ Some o
     → NeedsWords v.log (value v) t o need → CostsSum (words_of v.log) (Held (value v)) held_words
     → config.heap < held_words + need
     → LacksRoom script v.log (replies_of states) config (now v.log states) t held_words need

@@ -16,7 +16,7 @@ contains_or_not (x ∷ xs) n = elim (cases_eq x n) [
   | inl same ↦ inl (subst (Contains (x ∷ xs)) same (contains_here x xs))
   | inr differs ↦ elim (contains_or_not xs n) [
     | inl has ↦ inl (contains_more x n xs has)
-    | inr none ↦ inr (λ has. elim (contains_cases x n xs has) [ inl same ↦ differs same | inr behind ↦ none behind ])
+    | inr none ↦ inr (λ has. elim (contains_cases x n xs has) [ inl same ↦ differs same | inr after ↦ none after ])
   ]
 ]
 
@@ -44,7 +44,7 @@ moved_there : (to : ℕ → ℕ) (xs : List ℕ) (a : ℕ) → Contains xs a →
 moved_there to [] a (k, below, is) = absurd (omega arith)
 moved_there to (x ∷ xs) a has = elim (contains_cases x a xs has) [
   | inl same ↦ subst (λ (y : ℕ). Contains (to x ∷ map to xs) (to y)) same (contains_here (to x) (map to xs))
-  | inr behind ↦ contains_more (to x) (to a) (map to xs) (moved_there to xs a behind)
+  | inr after ↦ contains_more (to x) (to a) (map to xs) (moved_there to xs a after)
 ]
 
 -- and a new address is that of an old one
@@ -52,7 +52,7 @@ moved_from : (to : ℕ → ℕ) (xs : List ℕ) (b : ℕ) → Contains (map to x
 moved_from to [] b (k, below, is) = absurd (omega arith)
 moved_from to (x ∷ xs) b has = elim (contains_cases (to x) b (map to xs) has) [
   | inl same ↦ (x, contains_here x xs, same)
-  | inr behind ↦ let rest = moved_from to xs b behind in (rest.0, contains_more x rest.0 xs rest.1, rest.2)
+  | inr after ↦ let rest = moved_from to xs b after in (rest.0, contains_more x rest.0 xs rest.1, rest.2)
 ]
 
 -- the sums are the same where each has the same cost

@@ -34,9 +34,9 @@ pub IsCut_same : (script : Script) (log : List Entry) (a b : ℕ → List Reply)
 IsCut_same script log a b config cut same is = record {
   within = is.within;
   few = λ t. subst (λ (rs : List Reply). cut.replies t ≤ length rs) (same t) (is.few t);
-  told =
+  transcripts =
       λ t. subst (λ (rs : List Reply). Transcript (take cut.entries log) t (operations script t)
-      (take (cut.replies t) rs)) (same t) (is.told t);
+      (take (cut.replies t) rs)) (same t) (is.transcripts t);
   last = λ t ended. is.last t ended ∙ ap length (same t);
   over = is.over;
 }

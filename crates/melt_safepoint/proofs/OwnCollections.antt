@@ -68,7 +68,7 @@ below_all shown old new n below all =
       planned = subst (λ (j : ℕ). MakesPlanned j shown old new) same below.planned;
     }
 
--- a thread waited, and none lacks room behind the collections: so one was made for it, and it has less to do
+-- a thread waited, and none lacks room after the collections: so one was made for it, and it has less to do
 pub own_less : (states mid : List ThreadState) → CollectedAll states mid → OneWaits states → NoneLacks mid
     → to_do mid < to_do states
 own_less states mid all waits none = elim (waits_for waits.1.0.mode waits.1.2) [
@@ -79,7 +79,7 @@ own_less states mid all waits none = elim (waits_for waits.1.0.mode waits.1.2) [
       absurd (none waits.0 x.0 x.1 (ap (λ (z : ThreadState). z.mode) (x.2.same lacks.1) ∙ lacks.0))
 ]
 
--- a thread waited, and none lacks room behind the collections: so there was one
+-- a thread waited, and none lacks room after the collections: so there was one
 pub own_due : (old mid : Row) → CollectedAll old.states mid.states → OneWaits old.states
     → NoneLacks mid.states → collections_due old.states ≢ 0
 own_due old mid all waits none = λ nothing. elim (waits_for waits.1.0.mode waits.1.2) [

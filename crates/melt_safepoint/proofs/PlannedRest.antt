@@ -165,8 +165,8 @@ module _ (told : Bool) (disk : OnDisk) (mid new : Heap) (b : Beside) (registers 
         collected = has.collected;
         live = has.live;
         held_words = has.held_words;
-        used = has.told.live_words;
-        of_phase = has.told.of_phase;
+        used = has.journals.live_words;
+        of_phase = has.journals.of_phase;
         tables = copies.collects.tables;
         settled = copies.collects.settled;
       }

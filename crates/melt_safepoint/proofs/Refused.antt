@@ -30,9 +30,9 @@ use Rattle.melt_safepoint.proofs.PlannedRest.{SettledOver, keeps_made, keeps_the
 
 -- only a Move asks the disk for room
 refused_move : {Disk : Type 0} {image : Disk → Option (List ℕ)} {writes : Disk → ℕ} {phase : Phase} {heap : Heap}
-    {held registers : List Registers} {before behind : Stale Disk} {back : Heap} {full : disk_full.DiskFull}
-    → (settled : IsRefusedSettled image writes phase heap held registers before behind (DiskFull back full))
-    → (phase ≡ Move) × IsRefused settled.mid held registers settled.between behind (DiskFull back full)
+    {held registers : List Registers} {before after : Stale Disk} {back : Heap} {full : disk_full.DiskFull}
+    → (settled : IsRefusedSettled image writes phase heap held registers before after (DiskFull back full))
+    → (phase ≡ Move) × IsRefused settled.mid held registers settled.between after (DiskFull back full)
 refused_move {phase = Inactive} settled = let no = settled.refused.no_memory in absurd (cc)
 refused_move {phase = Mark} settled = let no = settled.refused.no_memory in absurd (cc)
 refused_move {phase = Move} settled = (refl, settled.refused)
@@ -167,15 +167,15 @@ module _ (told : Bool) (disk : OnDisk) (heap mid back : Heap) (b : Beside) (imag
 -- Where a planned collection was refused for want of room on the disk, it was a Move, and over each disk that is seen
 -- as it was all stands as before.
 pub is_full : {Disk : Type 0} {phase : Phase} {image : Disk → Option (List ℕ)} {writes : Disk → ℕ} {heap : Heap}
-    {held registers : List Registers} {before behind : Stale Disk} {back : Heap} {full : disk_full.DiskFull}
-    → IsRefusedSettled image writes phase heap held registers before behind (DiskFull back full)
-    → behind.limit ≡ before.limit → StillTold (image before.disk.now) (image behind.disk.now)
-    → IsFullHeap phase (shown_by image before) (shown_by image behind) heap back held full
-is_full {phase} {image} {writes} {heap} {held} {registers} {before} {behind} {back} {full} refused limit still b left
+    {held registers : List Registers} {before after : Stale Disk} {back : Heap} {full : disk_full.DiskFull}
+    → IsRefusedSettled image writes phase heap held registers before after (DiskFull back full)
+    → after.limit ≡ before.limit → StillTold (image before.disk.now) (image after.disk.now)
+    → IsFullHeap phase (shown_by image before) (shown_by image after) heap back held full
+is_full {phase} {image} {writes} {heap} {held} {registers} {before} {after} {back} {full} refused limit still b left
     was names may there history =
-    let settled : IsRefusedSettled image writes phase heap b.held registers before behind (DiskFull back full) =
+    let settled : IsRefusedSettled image writes phase heap b.held registers before after (DiskFull back full) =
     subst (λ (lent : List Registers).
-    IsRefusedSettled image writes phase heap lent registers before behind (DiskFull back full)) (sym was) refused in
+    IsRefusedSettled image writes phase heap lent registers before after (DiskFull back full)) (sym was) refused in
     let found = refused_move settled in
     let same : IsAsBefore settled.mid back = found.1.0 in
     let lacks : LacksDisk settled.mid b.held settled.between.end settled.between.limit full = found.1.4 in
@@ -201,7 +201,7 @@ is_full {phase} {image} {writes} {heap} {held} {registers} {before} {behind} {ba
           full_over told seen.disk heap settled.mid back b (image before.disk.now) (image settled.between.disk.now)
           rests seen.shows
           (subst (λ (n : ℕ). Settles heap settled.mid n (image before.disk.now) (image settled.between.disk.now))
-          (sym seen.ends) settled.settles) same (shown_by image behind) settled.between.limit full
+          (sym seen.ends) settled.settles) same (shown_by image after) settled.between.limit full
           (seen.ends ∙ sym (found.1.2 ∙ stays)) (ap image found.1.3) (λ tells. still (under.tells tells).0)
           (subst (λ (n : ℕ). LacksDisk settled.mid b.held n settled.between.limit full) (stays ∙ sym seen.ends) lacks);
     }

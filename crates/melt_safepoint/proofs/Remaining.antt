@@ -54,7 +54,7 @@ use Rattle.melt_safepoint.specs.declared.ending.Ended.{Ended}
 use Rattle.melt_safepoint.specs.declared.ending.Stop.TheVariants.{Halted}
 use Rattle.melt_safepoint.specs.Ended.{EndedStands, EndsBy, EndsFull}
 use Rattle.melt_safepoint.specs.Rows.{StopCounts}
-use Rattle.melt_safepoint.specs.Tables.{IsTold, ThreadStands, TableStands}
+use Rattle.melt_safepoint.specs.Tables.{RepliesStand, ThreadStands, TableStands}
 use Rattle.melt_safepoint.proofs.Reports.{Reports, reports_ended, reports_halted, replies_same, as_told, step_report}
 
 -- the state of a view that shows a heap is that of the heap
@@ -114,14 +114,14 @@ held_left : (script : Script) (v : View) (t r : ℕ) (s : ThreadState) → Threa
     → (IsEnded s.mode → ⊥)
     → value_in (registers_after v.log t (operations script t) (length s.replies.items)) r ≡ value v t r
 held_left script v t r s stands goes =
-    let is : IsTold script v t s = stands.is_told refl in
+    let is : RepliesStand script v t s = stands.replies_stand refl in
     let ops : List Op = operations script t in
     let k : ℕ = length s.replies.items in
     let told : registers_after v.log t ops k ≡ is.registers =
     ap (λ (os : List Op). registers_after v.log t os k) (sym (take-append-drop k ops))
     ∙ (ap (registers_after v.log t (take k ops ++ drop k ops))
-    (one_reply_each v.log t (take k ops) s.replies.items is.registers is.told)
-    ∙ registers_so_far v.log t (take k ops) (drop k ops) s.replies.items is.registers is.told) in
+    (one_reply_each v.log t (take k ops) s.replies.items is.registers is.stands)
+    ∙ registers_so_far v.log t (take k ops) (drop k ops) s.replies.items is.registers is.stands) in
     let held : is.registers ≡ values_of v t =
     elim is.in_registers [ inl ended ↦ absurd (goes ended) | inr same ↦ same ] in
     ap (λ (vs : List Value). value_in vs r) (told ∙ held)

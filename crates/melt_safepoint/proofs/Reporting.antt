@@ -61,12 +61,12 @@ new_all script k amount states all eight so_far = record {
   few = omega (arith, so_far.entries, so_far.few, eight);
 }
 
--- a thread that a list has behind others has ended
-pub ended_next : (states before behind : List ThreadState) (s : ThreadState) → before ++ s ∷ behind ≡ states
+-- a thread that a list has after others has ended
+pub ended_next : (states before after : List ThreadState) (s : ThreadState) → before ++ s ∷ after ≡ states
     → ((t : ℕ) (x : ThreadState) → slice_get states t ≡ Some x → IsEnded x.mode) → IsEnded s.mode
-ended_next states before behind s is ended =
+ended_next states before after s is ended =
     ended (length before) s (ap (λ (xs : List ThreadState). slice_get xs (length before)) (sym is)
-    ∙ slice_get-append_seam before s behind)
+    ∙ slice_get-append_seam before s after)
 
 -- the reports of threads have their replies and ends
 pub record Reported (states : List ThreadState) (threads : List ThreadReport) : Type 0 where

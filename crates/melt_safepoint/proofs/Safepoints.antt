@@ -1,4 +1,4 @@
--- Which threads wait behind the collections of a safepoint, and how many collections there are.
+-- Which threads wait after the collections of a safepoint, and how many collections there are.
 use Rattle.std.specs.Prelude.{None, Some, slice_get, slice_set}
 use Rattle.std.proofs.Common.{◌≡◌, ℕ, ◌+◌, ◌<◌, ◌≤◌, zero, suc, List, [], ◌∷◌, length, take, refl, sym, ◌∙◌, ap, subst}
 use Rattle.std.proofs.Common.{arith, ◌⊎◌, inl, inr}
@@ -40,7 +40,7 @@ own_one Asked = inr (λ own. own, refl)
 own_one Lacking = inr (λ own. own, refl)
 own_one (Ended e) = inr (λ own. own, refl)
 
--- behind its collection a thread waits for none
+-- after its collection a thread waits for none
 collected_own : (s x : ThreadState) → CollectedFor s x → ForCollection x.mode → ⊥
 collected_own s x made own = elim (for_collection s.mode) [
   | inl waits ↦ made.goes waits (own_paused x.mode own)
@@ -68,7 +68,7 @@ none_own states after all = λ u x at own. elim (slice_get_cases states u).1 [
       omega (arith, within, all.count, w.0))
 ]
 
--- also behind the call of a thread
+-- also after the call of a thread
 pub called_own : (states after : List ThreadState) (t : ℕ) (s : ThreadState) → NoneOwn states
     → slice_get states t ≡ Some s → CalledAt states after t → NoneOwn after
 called_own states after t s none at called = λ u x there own.
@@ -84,7 +84,7 @@ called_own states after t s none at called = λ u x there own.
       | inr other ↦ none u x (sym (get_set_other states t u one.0 other) ∙ is) own
     ]
 
--- no collection or one, behind others
+-- no collection or one, after others
 pub planned_more : (config : Config) (m k : ℕ) (a b c : List Journal) → k ≤ 1 → Planned config m a b
     → Planned config k b c → Planned config (m + k) a c
 planned_more config m zero a b c few first second =
@@ -142,7 +142,7 @@ due_none (x ∷ states) (suc t) s none at own =
     let f : ThreadState → ℕ = λ (y : ThreadState). collections_for y.mode in
     due_none states t s (omega (arith, none, sum-map f (x ∷ states), sum-map f states, sum_by-cons f x states)) at own
 
--- the same threads lack room behind the collections as before
+-- the same threads lack room after the collections as before
 pub none_lacks : (states after : List ThreadState) → CollectedAll states after → NoneLacks after → NoneLacks states
 none_lacks states after all none t s at lacks =
     let x : (x : ThreadState) × (slice_get after t ≡ Some x) × CollectedFor s x = all.each t s at in

@@ -20,7 +20,7 @@ pub stop_more : (k : ℕ) {m : ℕ} (n a b : ℕ) (js : List Journal) (stop : St
 stop_more k n a b js NoMemory less lends = tt
 stop_more k n a b js (Halted ended) less lends = lends_more n less lends
 
--- behind collections that were made meanwhile
+-- after collections that were made meanwhile
 pub stop_since : (k m : ℕ) {a b : ℕ} (c : ℕ) (js mid : List Journal) (stop : Stop) → b ≡ a → length js ≤ length mid
     → StopLends k m b c mid stop → StopLends k m a c js stop
 stop_since k m c js mid NoMemory same grows lends = tt
@@ -34,14 +34,14 @@ stop_then n c NoMemory first second = tt
 stop_then n c (Halted ended) first second =
     lends_then first second
 
--- behind a collection
+-- after a collection
 pub stop_after : (k m : ℕ) {a b : ℕ} (c : ℕ) (js mid : List Journal) (stop : Stop) → b ≡ a → length js + 1 ≤ length mid
     → StopLends k (m + 1) b c mid stop → StopLends k m a c js stop
 stop_after k m c js mid NoMemory same paid lends = tt
 stop_after k m c js mid (Halted ended) same paid lends =
     lends_after m js same paid lends
 
--- the collections behind this one pay for two epochs each
+-- the collections after this one pay for two epochs each
 pub stop_twice : (k : ℕ) {a b : ℕ} (js mid : List Journal) (stop : Stop) → b ≡ a → length js + 1 ≤ length mid → (c : ℕ)
     → StopLends k 2 b c mid stop → StopTwice k 0 a c js stop
 stop_twice k {a} js mid NoMemory same paid c lends = tt

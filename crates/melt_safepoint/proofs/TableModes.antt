@@ -28,7 +28,7 @@ use Rattle.melt_safepoint.proofs.Cuts.{replies_here}
 use Rattle.melt_safepoint.proofs.Threads.{get_set_same, get_set_other}
 use Rattle.melt_safepoint.proofs.Modes.{ends_gone, goes_waits}
 use Rattle.melt_safepoint.specs.Tables.{ThreadStands, TableStands, KnowsStop, SetsStop, DropsIfEnded}
-use Rattle.melt_safepoint.proofs.Tables.{Moves, Table_moves, mode_stands, same_moves, stands_so, told_so}
+use Rattle.melt_safepoint.proofs.Tables.{ThreadEvent, Table_moves, mode_stands, same_moves, stands_so, told_so}
 
 -- the stop word is of no thread
 pub stop_keeps : (v : View) (stop : Bool) (t : ℕ) → KeepsOthers v (record v { stop = stop }) t
@@ -101,7 +101,7 @@ gone_stands : {told : Bool} {script : Script} {v w : View} {t : ℕ} {s : Thread
     → ThreadStands told script w t (record s { mode = Ended e })
 gone_stands {w} {t} e st dropped no_call =
     stands_so w (Ended e) st
-    (λ tells. told_so w (Ended e) (st.is_told tells) (ap (λ (x : View). x.log) dropped.only) (inl tt))
+    (λ tells. told_so w (Ended e) (st.replies_stand tells) (ap (λ (x : View). x.log) dropped.only) (inl tt))
     (λ over. dropped.here)
     (λ c is. absurd (let none : call_of w t ≡ None = ap (λ (x : View). call_of x t) dropped.only ∙ no_call in cc)) tt
 
@@ -114,7 +114,7 @@ pub Table_gone : {told : Bool} {script : Script} {config : Config} {disk : OnDis
 Table_gone {told} {script} {config} {disk} {v} {w} {states} {t} {s} e table at goes dropped no_call ends =
     let after : ThreadState = record s { mode = Ended e } in
     let history : w.log ≡ v.log = ap (λ (x : View). x.log) dropped.only in
-    let moves : Moves told script config v w states t s after = record {
+    let moves : ThreadEvent told script config v w states t s after = record {
       act = None;
       extra = [];
       grown = history;

@@ -46,13 +46,13 @@ use Rattle.melt_safepoint.proofs.Threads.{get_set_same, get_set_other, set_got, 
 use Rattle.melt_safepoint.proofs.Threads.{replies_same, later_set, to_reply_set, to_reply_one}
 use Rattle.melt_safepoint.proofs.Modes.{ends_later, ends_open, paused_cases, lost_ends, ended_fits, refused_owes}
 use Rattle.melt_safepoint.proofs.Modes.{lost_so, told_fits, told_due, first_counts, ends_untold}
-use Rattle.melt_safepoint.specs.Tables.{IsTold, ThreadStands, TableStands, ThreadWaits, ThreadGoes, ThreadRefused}
+use Rattle.melt_safepoint.specs.Tables.{RepliesStand, ThreadStands, TableStands, ThreadWaits, ThreadGoes, ThreadRefused}
 use Rattle.melt_safepoint.specs.Tables.{ThreadLost, ThreadTold, IsReady, ThreadStep, Renewed}
 use Rattle.melt_safepoint.proofs.Telling.{with_more, with_length, with_own, told_with, Stands_answers}
 
 -- A thread stands so too with another mode, where it is told so.
 pub stands_so : {told : Bool} {script : Script} {v : View} (w : View) {t : ℕ} {s : ThreadState} (mode : Mode)
-    → ThreadStands told script v t s → (told ≡ true → IsTold script w t (record s { mode = mode }))
+    → ThreadStands told script v t s → (told ≡ true → RepliesStand script w t (record s { mode = mode }))
     → (IsEnded mode → values_of w t ≡ replicate 16 Nil)
     → ((c : Call) → call_of w t ≡ Some c → (mode ≡ Running) × (s.op ≡ Some c.op) × (c.op ≢ Collect))
     → FitsMode mode s.op → ThreadStands told script w t (record s { mode = mode })
@@ -60,7 +60,7 @@ stands_so w mode st is_told dropped call fits = record {
   to_come = st.to_come;
   within = st.within;
   none_left = st.none_left;
-  is_told = is_told;
+  replies_stand = is_told;
   dropped = dropped;
   call = call;
   fits = fits;
@@ -70,23 +70,24 @@ stands_so w mode st is_told dropped call fits = record {
 }
 
 -- what a thread is told by a history that is the same
-pub told_so : {script : Script} {v : View} (w : View) {t : ℕ} {s : ThreadState} (mode : Mode) (is : IsTold script v t s)
-    → w.log ≡ v.log → IsEnded mode ⊎ (is.registers ≡ values_of w t) → IsTold script w t (record s { mode = mode })
+pub told_so : {script : Script} {v : View} (w : View) {t : ℕ} {s : ThreadState} (mode : Mode) (is : RepliesStand script
+    v t s)
+    → w.log ≡ v.log → IsEnded mode ⊎ (is.registers ≡ values_of w t) → RepliesStand script w t (record s { mode = mode })
 told_so {script} w {t} {s} mode is history in_registers = record {
   registers = is.registers;
-  told = subst (λ (h : List Entry). Stands h t (take (length s.replies.items) (operations script t)) s.replies.items
-      is.registers) (sym history) is.told;
+  stands = subst (λ (h : List Entry). Stands h t (take (length s.replies.items) (operations script t)) s.replies.items
+      is.registers) (sym history) is.stands;
   in_registers = in_registers;
 }
 
 -- another thread than that of the event
 other_told : {script : Script} {v w : View} {t u : ℕ} {s : ThreadState} (act : Option Act) → u ≢ t → KeepsOthers v w t
-    → w.log ≡ with_entry t v.log act → IsTold script v u s → IsTold script w u s
+    → w.log ≡ with_entry t v.log act → RepliesStand script v u s → RepliesStand script w u s
 other_told {script} {t} {u} {s} act differ others grown is = record {
   registers = is.registers;
-  told = subst (λ (h : List Entry). Stands h u (take (length s.replies.items) (operations script u)) s.replies.items
+  stands = subst (λ (h : List Entry). Stands h u (take (length s.replies.items) (operations script u)) s.replies.items
       is.registers) (sym grown)
-      (told_with t act differ is.told);
+      (told_with t act differ is.stands);
   in_registers = elim is.in_registers [
     | inl over ↦ inl over
     | inr same ↦ inr (same ∙ sym (others.values u differ))
@@ -97,11 +98,12 @@ other_stands : {told : Bool} {script : Script} {v w : View} {t u : ℕ} {s : Thr
     → KeepsOthers v w t → w.log ≡ with_entry t v.log act → ThreadStands told script v u s
     → ThreadStands told script w u s
 other_stands {w} {u} {s} act differ others grown st =
-    stands_so w s.mode st (λ tells. other_told act differ others grown (st.is_told tells))
+    stands_so w s.mode st (λ tells. other_told act differ others grown (st.replies_stand tells))
     (λ over. others.values u differ ∙ st.dropped over) (λ c is. st.call c (sym (others.calls u differ) ∙ is)) st.fits
 
 -- the registers of a thread that has not ended hold what it was told
-held_now : (script : Script) (v : View) (t : ℕ) (s : ThreadState) (is : IsTold script v t s) → (IsEnded s.mode → ⊥)
+held_now : (script : Script) (v : View) (t : ℕ) (s : ThreadState) (is : RepliesStand script v t s) → (IsEnded s.mode
+    → ⊥)
     → is.registers ≡ values_of v t
 held_now script v t s is runs = elim is.in_registers [ inl over ↦ absurd (runs over) | inr same ↦ same ]
 
@@ -112,12 +114,13 @@ pub mode_stands : {told : Bool} {script : Script} {v : View} (w : View) {t : ℕ
     → ((c : Call) → call_of w t ≡ Some c → (mode ≡ Running) × (s.op ≡ Some c.op) × (c.op ≢ Collect))
     → ThreadStands told script w t (record s { mode = mode })
 mode_stands {script} {v} w {t} {s} mode st runs waits history values fits call =
-    stands_so w mode st (λ tells. told_so w mode (st.is_told tells) history
-    (inr (held_now script v t s (st.is_told tells) runs ∙ sym values))) (λ over. absurd (waits over)) call fits
+    stands_so w mode st (λ tells. told_so w mode (st.replies_stand tells) history
+    (inr (held_now script v t s (st.replies_stand tells) runs ∙ sym values))) (λ over. absurd (waits over)) call fits
 
--- What an event of a thread shows of it, so that all threads stand behind the event: its entry, if it has one, and the
+-- What an event of a thread shows of it, so that all threads stand after the event: its entry, if it has one, and the
 -- replies that it got.
-pub record Moves (told : Bool) (script : Script) (config : Config) (v w : View) (states : List ThreadState) (t : ℕ)
+pub record ThreadEvent (told : Bool) (script : Script) (config : Config) (v w : View) (states : List ThreadState) (t :
+    ℕ)
     (s after : ThreadState) : Type 0 where
   pub act : Option Act
   pub extra : List Reply
@@ -128,11 +131,11 @@ pub record Moves (told : Bool) (script : Script) (config : Config) (v w : View) 
   pub ends : EndsSo told script w.log (set states t after) config t after.mode
   pub entries : length w.log + length (left after) ≤ length v.log + length (left s)
 
--- all threads stand behind such an event
+-- all threads stand after such an event
 pub Table_moves : {told : Bool} {script : Script} {config : Config} {disk : OnDisk} {v w : View}
     {states : List ThreadState} {t : ℕ} {s after : ThreadState} → TableStands told script config disk v states
     → slice_get states t ≡ Some s → (IsEnded s.mode → ⊥) → Standing told disk w → KeepsOthers v w t
-    → Moves told script config v w states t s after → TableStands told script config disk w (set states t after)
+    → ThreadEvent told script config v w states t s after → TableStands told script config disk w (set states t after)
 Table_moves {told} {script} {config} {v} {w} {states} {t} {s} {after} table at runs stands others m =
     let later : Later states (set states t after) = later_set states t s after m.extra at runs m.replies in
     let more = with_more v.log t m.act in
@@ -192,7 +195,7 @@ Table_moves {told} {script} {config} {v} {w} {states} {t} {s} {after} table at r
 -- and the moments of the run stay so
 pub moments_moves : {told : Bool} {script : Script} {config : Config} {v w : View} {states : List ThreadState} {t : ℕ}
     {s after : ThreadState} (journal : List Journal) → slice_get states t ≡ Some s → (IsEnded s.mode → ⊥)
-    → Moves told script config v w states t s after → (HadNoRoom after.mode → ⊥)
+    → ThreadEvent told script config v w states t s after → (HadNoRoom after.mode → ⊥)
     → HaveMoments script v.log states config journal → HaveMoments script w.log (set states t after) config journal
 moments_moves {script} {config} {v} {states} {t} {s} {after} journal at runs m room have =
     let more = with_more v.log t m.act in
@@ -204,7 +207,7 @@ moments_moves {script} {config} {v} {states} {t} {s} {after} journal at runs m r
 pub same_moves : {told : Bool} {script : Script} (config : Config) (v : View) {w : View} (states : List ThreadState)
     {t : ℕ} (s : ThreadState) (mode : Mode) → (owes_silent mode ≡ true → IsDue config (length s.replies.items))
     → (IsEnded mode → ⊥) → w.log ≡ v.log → ThreadStands told script w t (record s { mode = mode })
-    → Moves told script config v w states t s (record s { mode = mode })
+    → ThreadEvent told script config v w states t s (record s { mode = mode })
 same_moves {told} {script} config v {w} states {t} s mode due free history stands =
     let after : ThreadState = record s { mode = mode } in
     record {
@@ -230,7 +233,7 @@ waits_open v w t s after mode waits over = elim waits.before [
 waits_moves : {told : Bool} {script : Script} (config : Config) {v w : View} (states : List ThreadState) {t : ℕ}
     {s after : ThreadState} {mode : Mode} → (owes_silent s.mode ≡ true → IsDue config (length s.replies.items))
     → ThreadStands told script v t s → (IsEnded s.mode → ⊥) → ThreadWaits v w t s after mode
-    → Moves told script config v w states t s after
+    → ThreadEvent told script config v w states t s after
 waits_moves {told} {script} config {v} {w} states {t} {s} {after} {mode} due st runs waits =
     let waiting : IsEnded mode → ⊥ = waits_open v w t s after mode waits in
     let fits : FitsMode mode s.op = elim waits.before [
@@ -247,7 +250,7 @@ waits_moves {told} {script} config {v} {w} states {t} {s} {after} {mode} due st 
     ] in
     let stands : ThreadStands told script (stopped v) t (record s { mode = mode }) =
     mode_stands (stopped v) mode st runs waiting refl refl fits (λ c is. absurd (call c is)) in
-    subst (λ (y : ThreadState). Moves told script config v w states t s y) (sym waits.only)
+    subst (λ (y : ThreadState). ThreadEvent told script config v w states t s y) (sym waits.only)
     (same_moves config v states s mode owes waiting (ap (λ (x : View). x.log) waits.stop)
     (subst (λ (x : View). ThreadStands told script x t (record s { mode = mode })) (sym waits.stop) stands))
 
@@ -255,7 +258,7 @@ waits_moves {told} {script} config {v} {w} states {t} {s} {after} {mode} due st 
 goes_moves : {told : Bool} {script : Script} (config : Config) {v w : View} (states : List ThreadState) {t : ℕ}
     {s after : ThreadState} → (owes_silent s.mode ≡ true → IsDue config (length s.replies.items))
     → ThreadStands told script v t s → (IsEnded s.mode → ⊥) → ThreadGoes v w t s after
-    → Moves told script config v w states t s after
+    → ThreadEvent told script config v w states t s after
 goes_moves {told} {script} config {v} {w} states {t} {s} due st runs goes =
     let stands : ThreadStands told script w t (record s { mode = s.mode }) =
     mode_stands w s.mode st runs runs goes.history goes.values st.fits
@@ -264,7 +267,7 @@ goes_moves {told} {script} config {v} {w} states {t} {s} due st runs goes =
       goes.op ∙ ap (λ (x : Call). Some x.op) same,
       subst (λ (x : Call). x.op ≢ Collect) same goes.no_collect,
     )) in
-    subst (λ (y : ThreadState). Moves told script config v w states t s y) (sym goes.same)
+    subst (λ (y : ThreadState). ThreadEvent told script config v w states t s y) (sym goes.same)
     (same_moves config v states s s.mode due runs goes.history stands)
 
 -- what a call that paused leaves of the view
@@ -283,8 +286,8 @@ again_moves : {told : Bool} {script : Script} (config : Config) {v : View} (w : 
     {t : ℕ} {s : ThreadState} (mode : Mode) → ThreadStands told script v t s → (IsEnded s.mode → ⊥)
     → (mode ≡ Asked) ⊎ (mode ≡ Lacking) → IsSome s.op → s.op ≢ Some Collect
     → (call_of w t ≡ None) × (w.log ≡ v.log) × (values_of w t ≡ values_of v t)
-    → Moves told script config v w states t s (record s { mode = mode })
-again_moves {told} {script} config {v} w states {t} {s} mode st runs waits some no_collect behind =
+    → ThreadEvent told script config v w states t s (record s { mode = mode })
+again_moves {told} {script} config {v} w states {t} {s} mode st runs waits some no_collect beyond =
     let waiting : IsEnded mode → ⊥ = λ over. elim waits [
       | inl asked ↦ subst IsEnded asked over
       | inr lacking ↦ subst IsEnded lacking over
@@ -298,16 +301,16 @@ again_moves {told} {script} config {v} w states {t} {s} mode st runs waits some 
       | inr lacking ↦ subst (λ (m : Mode). FitsMode m s.op) (sym lacking) (some, no_collect)
     ] in
     let stands : ThreadStands told script w t (record s { mode = mode }) =
-    mode_stands w mode st runs waiting behind.1 behind.2 fits
-    (λ c is. absurd (let none : call_of w t ≡ None = behind.0 in cc)) in
-    same_moves config v states s mode owes waiting behind.1 stands
+    mode_stands w mode st runs waiting beyond.1 beyond.2 fits
+    (λ c is. absurd (let none : call_of w t ≡ None = beyond.0 in cc)) in
+    same_moves config v states s mode owes waiting beyond.1 stands
 
 -- a thread whose call was refused
 refused_moves : {told : Bool} {script : Script} (config : Config) {v w : View} (states : List ThreadState) {t : ℕ}
     {s after : ThreadState} → ThreadStands told script v t s → (IsEnded s.mode → ⊥) → ThreadRefused v w t s after
-    → Moves told script config v w states t s after
+    → ThreadEvent told script config v w states t s after
 refused_moves {told} {script} config {v} {w} states {t} {s} st runs refused =
-    subst (λ (y : ThreadState). Moves told script config v w states t s y) (sym refused.only)
+    subst (λ (y : ThreadState). ThreadEvent told script config v w states t s y) (sym refused.only)
     (again_moves config w states (mode_for (refusal.Pause refused.cause)) st runs (paused_cases refused.cause)
     (rw refused.next refl) (λ is. refused.no_collect (same_Some refused.op Collect (sym refused.next ∙ is)))
     (paused_view v w t refused.op refused.cause refused.pauses))
@@ -318,14 +321,14 @@ pub Table_lacks : {told : Bool} {script : Script} {config : Config} {disk : OnDi
     → slice_get states t ≡ Some s → s.mode ≡ Lacking → Standing told disk w → KeepsOthers v w t
     → (call_of w t ≡ None) × (w.log ≡ v.log) × (values_of w t ≡ values_of v t)
     → TableStands told script config disk w states
-Table_lacks {told} {script} {config} {disk} {v} {w} {states} {t} {s} table at lacking stands others behind =
+Table_lacks {told} {script} {config} {disk} {v} {w} {states} {t} {s} table at lacking stands others beyond =
     let st : ThreadStands told script v t s = table.each t s at in
     let runs : IsEnded s.mode → ⊥ = λ over. subst IsEnded lacking over in
     let fits : FitsMode Lacking s.op = subst (λ (m : Mode). FitsMode m s.op) lacking st.fits in
     let same : record s { mode = Lacking } ≡ s =
     ap {B = ThreadState} (λ (m : Mode). record s { mode = m }) (sym lacking) in
-    let moves : Moves told script config v w states t s (record s { mode = Lacking }) =
-    again_moves config w states Lacking st runs (inr refl) fits.0 fits.1 behind in
+    let moves : ThreadEvent told script config v w states t s (record s { mode = Lacking }) =
+    again_moves config w states Lacking st runs (inr refl) fits.0 fits.1 beyond in
     subst (TableStands told script config disk w) (set_got states t s at)
     (subst (λ (y : ThreadState). TableStands told script config disk w (set states t y)) same
     (Table_moves table at runs stands others moves))
@@ -337,13 +340,15 @@ lost_stands : {told : Bool} {script : Script} {finish : ℕ} {v w : View} {t : �
 lost_stands {told} {finish} {w} {t} {s} st lost =
     let over : IsEnded (mode_for lost.refusal) = lost_ends told finish lost.refusal lost.cause in
     stands_so w (mode_for lost.refusal) st
-    (λ tells. told_so w (mode_for lost.refusal) (st.is_told tells) lost.history (inl over)) (λ ended. lost.dropped)
+    (λ tells. told_so w (mode_for lost.refusal) (st.replies_stand tells) lost.history (inl over)) (λ ended.
+    lost.dropped)
     (λ c is. absurd (let none : call_of w t ≡ None = lost.call in cc)) (ended_fits (mode_for lost.refusal) s.op over)
 
--- all threads stand behind the end of one that could not read the disk
+-- all threads stand after the end of one that could not read the disk
 pub lost_moves : {told : Bool} {script : Script} (config : Config) {finish : ℕ} {v w : View} (states : List ThreadState)
     {t : ℕ} {s after : ThreadState} → finish ≤ config.disk → ThreadStands told script v t s
-    → slice_get states t ≡ Some s → ThreadLost told finish v w t s after → Moves told script config v w states t s after
+    → slice_get states t ≡ Some s → ThreadLost told finish v w t s after → ThreadEvent told script config v w states t s
+    after
 lost_moves {told} {script} config {finish} {v} {w} states {t} {s} within st at lost =
     let gone : ThreadState = record s { mode = mode_for lost.refusal } in
     let next : slice_get (operations script t) (length s.replies.items) ≡ Some lost.op =
@@ -352,7 +357,7 @@ lost_moves {told} {script} config {finish} {v} {w} states {t} {s} within st at l
     let loads : LoadsNext script t (length (replies_of (set states t gone) t)) =
     subst (LoadsNext script t) (ap length (sym (replies_same states t s gone at)))
     (record { op = lost.op; next = next; loads = lost.loads }) in
-    subst (λ (y : ThreadState). Moves told script config v w states t s y) (sym lost.only)
+    subst (λ (y : ThreadState). ThreadEvent told script config v w states t s y) (sym lost.only)
     (record {
       act = None;
       extra = [];
@@ -385,21 +390,21 @@ told_taken {script} {t} {s} {after} st got =
 -- it is told one operation further by the history
 told_further : {script : Script} {disk : OnDisk} {v w : View} {t : ℕ} {s after : ThreadState}
     → ThreadStands true script v t s → (IsEnded s.mode → ⊥) → Standing true disk v → Standing true disk w
-    → length w.globals ≡ length v.globals → ThreadTold true v w t s after → IsTold script w t after
-told_further {script} {v} {w} {t} {s} {after} st runs before behind globals got =
+    → length w.globals ≡ length v.globals → ThreadTold true v w t s after → RepliesStand script w t after
+told_further {script} {v} {w} {t} {s} {after} st runs before beyond globals got =
     let ops : List Op = operations script t in
     let k : ℕ = length s.replies.items in
-    let is : IsTold script v t s = st.is_told refl in
+    let is : RepliesStand script v t s = st.replies_stand refl in
     let answers = got.answers refl in
-    let legal : Legal w.log (length v.globals) = subst (λ (n : ℕ). Legal w.log n) globals (behind.legal refl) in
+    let legal : Legal w.log (length v.globals) = subst (λ (n : ℕ). Legal w.log n) globals (beyond.legal refl) in
     let now : Stands v.log t (take k ops) s.replies.items (values_of v t) =
     subst (λ (rs : List Value). Stands v.log t (take k ops) s.replies.items rs)
-    (held_now script v t s is runs) is.told in
+    (held_now script v t s is runs) is.stands in
     let next : Stands w.log t (take k ops ++ got.op ∷ []) (s.replies.items ++ got.reply ∷ []) answers.0 =
     Stands_answers (length v.globals) (before.legal refl) legal now answers.1 in
     record {
       registers = answers.0;
-      told = subst (λ (os : List Op). Stands w.log t os after.replies.items answers.0)
+      stands = subst (λ (os : List Op). Stands w.log t os after.replies.items answers.0)
           (sym (told_taken st got))
           (subst (λ (rs : List Reply). Stands w.log t (take k ops ++ got.op ∷ []) rs answers.0) (sym got.takes.replies)
           next);
@@ -409,16 +414,16 @@ told_further {script} {v} {w} {t} {s} {after} st runs before behind globals got 
 -- so far as the thread is told
 told_by : (told : Bool) {script : Script} {disk : OnDisk} {v w : View} {t : ℕ} {s after : ThreadState}
     → ThreadStands told script v t s → (IsEnded s.mode → ⊥) → Standing told disk v → Standing told disk w
-    → length w.globals ≡ length v.globals → ThreadTold told v w t s after → told ≡ true → IsTold script w t after
-told_by true st runs before behind globals got tells =
-    told_further st runs before behind globals got
-told_by false st runs before behind globals got tells = absurd (cc)
+    → length w.globals ≡ length v.globals → ThreadTold told v w t s after → told ≡ true → RepliesStand script w t after
+told_by true st runs before beyond globals got tells =
+    told_further st runs before beyond globals got
+told_by false st runs before beyond globals got tells = absurd (cc)
 
 -- it stands one operation further
 told_stands : {told : Bool} {script : Script} {disk : OnDisk} {v w : View} {t : ℕ} {s after : ThreadState}
     → ThreadStands told script v t s → (IsEnded s.mode → ⊥) → Standing told disk v → Standing told disk w
     → length w.globals ≡ length v.globals → ThreadTold told v w t s after → ThreadStands told script w t after
-told_stands {told} {script} {w} {t} {s} {after} st runs before behind globals got =
+told_stands {told} {script} {w} {t} {s} {after} st runs before beyond globals got =
     let ops : List Op = operations script t in
     let k : ℕ = length s.replies.items in
     let takes : TakesReply s after got.reply = got.takes in
@@ -438,7 +443,7 @@ told_stands {told} {script} {w} {t} {s} {after} st runs before behind globals go
           ∙ ap (λ (n : ℕ). drop n ops) (sym more));
       within = omega (arith, count, sizes, fewer, within);
       none_left = takes.none_left;
-      is_told = told_by told st runs before behind globals got;
+      replies_stand = told_by told st runs before beyond globals got;
       dropped = got.dropped;
       call = λ c is. absurd (let none : call_of w t ≡ None = got.call in cc);
       fits = told_fits s after got.reply takes;
@@ -463,15 +468,15 @@ told_ends {told} {script} config {w} states {t} {s} {after} at st takes =
       ]
     ]
 
--- so all threads stand behind its reply
+-- so all threads stand after its reply
 pub told_moves : {told : Bool} {script : Script} {config : Config} {disk : OnDisk} {v w : View}
     {states : List ThreadState} {t : ℕ} {s after : ThreadState} → DueBy config.every s after
     → TableStands told script config disk v states → slice_get states t ≡ Some s → (IsEnded s.mode → ⊥)
     → Standing told disk w → length w.globals ≡ length v.globals → ThreadTold told v w t s after
-    → Moves told script config v w states t s after
-told_moves {told} {script} {config} {v} {w} {states} {t} {s} {after} due table at runs behind globals got =
+    → ThreadEvent told script config v w states t s after
+told_moves {told} {script} {config} {v} {w} {states} {t} {s} {after} due table at runs beyond globals got =
     let st : ThreadStands told script w t after =
-    told_stands (table.each t s at) runs table.stands behind globals got in
+    told_stands (table.each t s at) runs table.stands beyond globals got in
     record {
       act = got.history.0;
       extra = got.reply ∷ [];
@@ -495,7 +500,8 @@ told_moves {told} {script} {config} {v} {w} {states} {t} {s} {after} due table a
 pub step_moves : {told : Bool} {script : Script} {config : Config} {disk : OnDisk} {v w : View}
     {states : List ThreadState} {t : ℕ} {s after : ThreadState} → disk.end ≤ config.disk
     → TableStands told script config disk v states → slice_get states t ≡ Some s → (IsEnded s.mode → ⊥)
-    → ThreadStep told disk v w t s after → DueBy config.every s after → Moves told script config v w states t s after
+    → ThreadStep told disk v w t s after → DueBy config.every s after → ThreadEvent told script config v w states t s
+    after
 step_moves {told} {script} {config} {v} {states} {t} {s} within table at runs step due =
     let st : ThreadStands told script v t s = table.each t s at in
     elim step.what [
@@ -512,7 +518,7 @@ step_moves {told} {script} {config} {v} {states} {t} {s} within table at runs st
       ]
     ]
 
--- all threads stand behind the event
+-- all threads stand after the event
 pub Table_step : {told : Bool} {script : Script} {config : Config} {disk : OnDisk} {v w : View}
     {states : List ThreadState} {t : ℕ} {s after : ThreadState} → disk.end ≤ config.disk
     → TableStands told script config disk v states → slice_get states t ≡ Some s → (IsEnded s.mode → ⊥)
@@ -649,7 +655,7 @@ Table_renewed {told} {script} {config} {v} {w} {states} table renewed = record {
   each = λ t s at.
       let st : ThreadStands told script v t s = table.each t s at in
       stands_so w s.mode st
-      (λ tells. told_so w s.mode (st.is_told tells) renewed.history (elim (st.is_told tells).in_registers [
+      (λ tells. told_so w s.mode (st.replies_stand tells) renewed.history (elim (st.replies_stand tells).in_registers [
         | inl over ↦ inl over
         | inr same ↦ inr (same ∙ sym (renewed.values t))
       ])) (λ over. renewed.values t ∙ st.dropped over)
@@ -684,7 +690,7 @@ Table_untold told script config disk v states table = record {
         to_come = st.to_come;
         within = st.within;
         none_left = st.none_left;
-        is_told = λ (tells : false ≡ true). absurd (cc);
+        replies_stand = λ (tells : false ≡ true). absurd (cc);
         dropped = st.dropped;
         call = st.call;
         fits = st.fits;

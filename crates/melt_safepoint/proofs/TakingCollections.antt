@@ -1,4 +1,4 @@
--- A run goes on behind the collection for which a thread waits.
+-- A run goes on after the collection for which a thread waits.
 use Rattle.std.proofs.Common.{◌≡◌, ℕ, ◌+◌, ◌*◌, ◌<◌, ◌≤◌, true, false, ◌⊎◌, List, [], ◌∷◌, length, get_or}
 use Rattle.std.proofs.Common.{replicate, refl, sym, ◌∙◌, ap, subst, arith, inl, inr}
 use Rattle.std.proofs.Math.ListN.{set}
@@ -22,7 +22,7 @@ use Rattle.melt_safepoint.specs.declared.thread.Mode.TheVariants.{Running, Silen
 use Rattle.melt_safepoint.specs.Counts.{CountsCollections}
 use Rattle.melt_safepoint.specs.Journals.{IsTight, Planned}
 use Rattle.melt_safepoint.specs.Shown.{Shown}
-use Rattle.melt_safepoint.specs.Threads.{DueBy, GoesOn, TakesReply, with_first}
+use Rattle.melt_safepoint.specs.Threads.{DueBy, RunsOrEnds, TakesReply, with_first}
 use Rattle.melt_safepoint.specs.Modes.{FitsMode, ForCollection, IsEnded, MayGo, owes, owes_silent}
 use Rattle.melt_safepoint.specs.Endings.{HaveMoments}
 use Rattle.melt_safepoint.proofs.Counting.{Adds, Spare, adds_silent, counts_taken, open_over}
@@ -36,7 +36,7 @@ use Rattle.melt_safepoint.specs.Rows.{MakesPlanned, journal_of, last_of}
 use Rattle.melt_safepoint.specs.Collections.{MadeSoFar}
 use Rattle.melt_safepoint.specs.Tables.{DropsIfEnded, TableStands, ThreadStep, ThreadTold}
 use Rattle.melt_safepoint.proofs.TableCounts.{adds_told}
-use Rattle.melt_safepoint.proofs.Collected.{collected_over, collected_table, just_behind, spare_collected, planned_one}
+use Rattle.melt_safepoint.proofs.Collected.{collected_over, collected_table, just_after, spare_collected, planned_one}
 use Rattle.melt_safepoint.proofs.Collected.{stands_collected}
 use Rattle.melt_safepoint.proofs.TableModes.{Table_gone, Table_runs, dropped_keeps, ends_done, nothing_keeps}
 use Rattle.melt_safepoint.proofs.TableModes.{drop_cases}
@@ -96,7 +96,7 @@ collect_told told v w t s after mode next takes history held dropped call = reco
   history = (None, history);
   answers = λ is. (
     values_of v t,
-    record { value = Nil; given = refl; told = refl; registers = refl; history = history },
+    record { value = Nil; given = refl; reply_is = refl; registers = refl; history = history },
     held,
   );
   dropped = dropped;
@@ -204,7 +204,7 @@ Run_answered {told} {script} {config} {mid} {new} {t} {s} {after} stands spare a
 Table_goes_on : {told : Bool} {script : Script} {config : Config} {disk : OnDisk} {v : View} (w : View)
     {states : List ThreadState} (t : ℕ) {s : ThreadState} (after : ThreadState)
     → TableStands told script config disk v states → slice_get states t ≡ Some s → (IsEnded s.mode → ⊥)
-    → call_of v t ≡ None → GoesOn s after → DropsIfEnded v w t after.mode
+    → call_of v t ≡ None → RunsOrEnds s after → DropsIfEnded v w t after.mode
     → TableStands told script config disk w (set states t after)
 Table_goes_on {told} {script} {config} {disk} {v} w {states} t {s} after table at goes no_call on drops = elim on [
   | inl runs ↦
@@ -221,7 +221,8 @@ Table_goes_on {told} {script} {config} {disk} {v} w {states} t {s} after table a
 -- the silent collection for which a thread waits was made, and the thread goes on
 Run_goes_on : {told : Bool} {script : Script} {config : Config} {shown : Shown} {mid new : Row} {t : ℕ}
     {s after : ThreadState} → StandsBut 1 told script config shown mid → HasSpare script config mid
-    → slice_get mid.states t ≡ Some s → s.mode ≡ Silent → GoesOn s after → DropsIfEnded mid.view new.view t after.mode
+    → slice_get mid.states t ≡ Some s → s.mode ≡ Silent → RunsOrEnds s after → DropsIfEnded mid.view new.view t
+    after.mode
     → SetsState mid new t after → RunStands told script config shown new
 Run_goes_on {script} {config} {mid} {new} {t} {s} {after} stands spare at mode on drops sets =
     let v : View = mid.view in
@@ -252,7 +253,7 @@ pub state_read : (states items : List ThreadState) (t : ℕ) (s x d : ThreadStat
 state_read states items t s x d at same is =
     is ∙ (ap (λ (xs : List ThreadState). get_or xs t d) same ∙ get_or_from_slice_get states t s d at)
 
--- A thread waited for a collection, and goes on behind one.
+-- A thread waited for a collection, and goes on after one.
 pub record WasCollected (old mid : Row) (t : ℕ) (s after : ThreadState) : Type 0 where
   pub at : slice_get old.states t ≡ Some s
   pub waits : ForCollection s.mode
@@ -276,7 +277,7 @@ was_collected old mid t {s} {x} {after} d at same read mode takes = record {
 never_forced : (config : Config) (c : Collector) → false ≡ true → IsTight config (last_of c)
 never_forced config c is = absurd (cc)
 
--- what stands before a planned collection stands where the thread goes on behind it
+-- what stands before a planned collection stands where the thread goes on after it
 pub keeps_taken : {shown later : Shown} {old mid new : Row} {t : ℕ} {s after : ThreadState}
     → MakesCollection false shown later old mid → WasCollected old mid t s after
     → DropsIfEnded mid.view new.view t after.mode → SetsState mid new t after → KeepsRun shown later old new
@@ -287,21 +288,21 @@ keeps_taken {old} {mid} {t} {s} made was drops sets = λ told script config stan
     (may_owe 0 old.states t s (omega arith) was.at (own_open s.mode was.waits))) (spare_collected stands made) here
     was.waits was.takes drops sets
 
--- the threads of a run have registers behind a collection
+-- the threads of a run have registers after a collection
 pub collected_thread : {told : Bool} {script : Script} {config : Config} {shown later : Shown} {old mid : Row} (t : ℕ)
     → RunStands told script config shown old → MakesCollection false shown later old mid → t < length old.states
     → t < length mid.view.held
 collected_thread {told} {script} {config} {mid} t stands made below =
-    let behind : TableStands told script config _ mid.view mid.states =
+    let beyond : TableStands told script config _ mid.view mid.states =
     collected_table (collected_over stands made) in
-    omega (arith, below, behind.threads, stands.table.count)
+    omega (arith, below, beyond.threads, stands.table.count)
 
 -- a collection was made for a thread that waits for one
 pub made_for : (shown later : Shown) (old mid new : Row) (s : ThreadState) → MakesCollection false shown later old mid
     → ForCollection s.mode → new.collector ≡ mid.collector → SameEpoch mid.view new.view
     → MakesFor s shown old new
 made_for shown later old mid new s made waits collector same = record {
-  made = λ for. just_behind false shown later old mid new made collector same.free same.forward;
+  made = λ for. just_after false shown later old mid new made collector same.free same.forward;
   none = λ never. absurd (never waits);
   planned = subst (λ (n : ℕ). MakesPlanned n shown old new) (sym (own_one s.mode waits)) (λ told script config stands.
       subst (λ (c : Collector). Planned config 1 (journal_of old) c.journal.items) (sym collector)

@@ -27,7 +27,7 @@ use Rattle.melt_model.proofs.Transcripts.{reference_at}
 use Rattle.melt_core.specs.Answering.{entry, with_entry, gives, Answers}
 use Rattle.melt_core.proofs.Values.{get_or_set_keeps}
 
--- What the registers hold behind an operation are references where they were before.
+-- What the registers hold after an operation are references where they were before.
 abbrev KeepsReferences : List Entry → ℕ → ℕ → Value → Deed → Type 0
 KeepsReferences h t globals x d = Legal (with_entry t h d.act) globals → gives h d.act ≡ x
     → HoldReferences (with_entry t h d.act) d.registers
@@ -155,7 +155,7 @@ Stands_answers {h} {t} globals {ops} {replies} {rs} {rs'} {o} {r} before legal s
     let next : Stands (with_entry t h d.act) t (ops ++ o ∷ []) (replies ++ d.reply ∷ []) d.registers =
     stands_by o d.act stands refl a.given held in
     let told : Stands (with_entry t h d.act) t (ops ++ o ∷ []) (replies ++ r ∷ []) d.registers =
-    subst (λ (x : Reply). Stands (with_entry t h d.act) t (ops ++ o ∷ []) (replies ++ x ∷ []) d.registers) a.told
+    subst (λ (x : Reply). Stands (with_entry t h d.act) t (ops ++ o ∷ []) (replies ++ x ∷ []) d.registers) a.reply_is
     next in
     let registers : Stands (with_entry t h d.act) t (ops ++ o ∷ []) (replies ++ r ∷ []) rs' =
     subst (λ (xs : List Value). Stands (with_entry t h d.act) t (ops ++ o ∷ []) (replies ++ r ∷ []) xs)

@@ -34,7 +34,7 @@ pub set_got : (states : List ThreadState) (t : ℕ) (s : ThreadState) → slice_
 set_got states t s at = subst (λ (y : ThreadState). set states t y ≡ states) (get_or_from_slice_get states t s s at)
     (set-get_or states t s)
 
--- the first of the elements that are left, where it stands, and what is left behind it
+-- the first of the elements that are left, where it stands, and what is left after it
 pub drop_next : {A : Type 0} (xs rest : List A) (k : ℕ) (x : A) → drop k xs ≡ x ∷ rest → drop (suc k) xs ≡ rest
 drop_next [] rest zero x is = absurd (cc)
 drop_next [] rest (suc k) x is = absurd (cc)

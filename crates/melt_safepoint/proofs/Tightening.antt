@@ -47,7 +47,7 @@ module _ (phase : Phase) (m after : Maps) (s t : State) (to home scion : ℕ →
       reached = Reached.in_register is.0.thread is.0.register a is.0.holds (let some = is.1 in omega (arith, some))
 
   -- an object that stays takes as many words as before
-  same_cost : (Is Has : ℕ → Type 0) {before behind : ℕ} (was : CountsWords s Is before) (is : CountsWords t Has behind)
+  same_cost : (Is Has : ℕ → Type 0) {before beyond : ℕ} (was : CountsWords s Is before) (is : CountsWords t Has beyond)
       (a : ℕ) {n : ℕ} → m.address a ≡ Some n → to a ≢ 0 → was.cost a ≡ is.cost (to a)
   same_cost Is Has was is a {n} named stays =
       let object : (header : Header) × ObjectAt s a header = formed.words.objects a n named in

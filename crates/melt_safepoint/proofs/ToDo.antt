@@ -15,7 +15,7 @@ use Rattle.melt_safepoint.specs.declared.thread.ThreadState.{ThreadState}
 use Rattle.melt_safepoint.proofs.Passing.{collected_jobs}
 use Rattle.melt_safepoint.proofs.Threads.{sum_set}
 
--- the first thread, and those behind it
+-- the first thread, and those after it
 to_do_first : (s : ThreadState) (states : List ThreadState) → to_do (s ∷ states) ≡ jobs_of s + to_do states
 to_do_first s states =
     omega (arith, sum-map jobs_of (s ∷ states), sum-map jobs_of states, sum_by-cons jobs_of s states)
@@ -35,9 +35,9 @@ to_do_within (s ∷ states) (x ∷ after) count each =
     let first : (y : ThreadState) × (Some x ≡ Some y) × (jobs_of y ≤ jobs_of s) = each 0 s refl in
     let fewer : jobs_of x ≤ jobs_of s =
     subst (λ (y : ThreadState). jobs_of y ≤ jobs_of s) (sym (same_Some x first.0 first.1)) first.2 in
-    let behind : to_do after ≤ to_do states =
+    let later : to_do after ≤ to_do states =
     to_do_within states after (omega (arith, count)) (λ t y at. each (suc t) y at) in
-    omega (arith, to_do_first s states, to_do_first x after, fewer, behind)
+    omega (arith, to_do_first s states, to_do_first x after, fewer, later)
 
 -- and where one thread has less, all have less
 pub to_do_under : (states after : List ThreadState) (t : ℕ) (s x : ThreadState) → length after ≡ length states
@@ -48,16 +48,16 @@ to_do_under (y ∷ states) [] t s x count each at now less = absurd (omega (arit
 to_do_under (y ∷ states) (z ∷ after) zero s x count each at now less =
     let was : y ≡ s = same_Some y s at in
     let is : z ≡ x = same_Some z x now in
-    let behind : to_do after ≤ to_do states =
+    let later : to_do after ≤ to_do states =
     to_do_within states after (omega (arith, count)) (λ t q there. each (suc t) q there) in
-    omega (arith, to_do_first y states, to_do_first z after, ap jobs_of was, ap jobs_of is, less, behind)
+    omega (arith, to_do_first y states, to_do_first z after, ap jobs_of was, ap jobs_of is, less, later)
 to_do_under (y ∷ states) (z ∷ after) (suc t) s x count each at now less =
     let first : (q : ThreadState) × (Some z ≡ Some q) × (jobs_of q ≤ jobs_of y) = each 0 y refl in
     let fewer : jobs_of z ≤ jobs_of y =
     subst (λ (q : ThreadState). jobs_of q ≤ jobs_of y) (sym (same_Some z first.0 first.1)) first.2 in
-    let behind : to_do after < to_do states =
+    let later : to_do after < to_do states =
     to_do_under states after t s x (omega (arith, count)) (λ u q there. each (suc u) q there) at now less in
-    omega (arith, to_do_first y states, to_do_first z after, fewer, behind)
+    omega (arith, to_do_first y states, to_do_first z after, fewer, later)
 
 -- a thread was set that has less to do
 pub to_do_set : (states : List ThreadState) (t : ℕ) (s after : ThreadState) → slice_get states t ≡ Some s

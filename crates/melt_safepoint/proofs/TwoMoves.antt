@@ -1,4 +1,4 @@
--- A call that lacked room is made again behind a Move that is forced, and behind a second one.
+-- A call that lacked room is made again after a Move that is forced, and after a second one.
 use Rattle.std.proofs.Common.{◌≡◌, ℕ, ◌+◌, ◌<◌, ◌≤◌, zero, suc, true, false, List, refl, sym, ap}
 use Rattle.std.proofs.Common.{subst, arith, inl, inr, ◌⊎◌}
 use Rattle.std.specs.Prelude.{Bool, Result, Ok, Err, IfOk, IfErr}
@@ -15,12 +15,12 @@ use Rattle.melt_core.specs.Views.{View, value, Standing}
 use Rattle.melt_safepoint.specs.declared.thread.ThreadState.{ThreadState}
 use Rattle.melt_safepoint.specs.Passing.{WaitsForRoom, NoneOwn}
 use Rattle.melt_safepoint.specs.Shown.{Shown}
-use Rattle.melt_safepoint.specs.Threads.{OweBehindCollects}
+use Rattle.melt_safepoint.specs.Threads.{OweAfterCollects}
 use Rattle.melt_safepoint.proofs.Cuts.{held_words_same}
 use Rattle.melt_safepoint.proofs.Lacking.{room_owes}
 use Rattle.melt_safepoint.specs.Collections.{CollectedOver, Gathers}
 use Rattle.melt_safepoint.specs.Rows.{AwaitsCall, LacksBy, LacksWords, LeftBy, Row}
-use Rattle.melt_safepoint.specs.Makes.{MovesBehind, MovesOnce}
+use Rattle.melt_safepoint.specs.Makes.{MovesAfter, MovesOnce}
 use Rattle.std.specs.Prelude.{Some}
 use Rattle.melt_safepoint.specs.Rows.{MakesCollection, NoRoom, StandsBut}
 use Rattle.melt_safepoint.specs.Rows.{StopsBut, StopsFrom}
@@ -44,7 +44,7 @@ left_again {spare} config (suc zero) {v} {w} {entry} need tells few left free ov
     }
 left_again {spare} config (suc (suc k)) {v} {w} {entry} need tells few left free over = absurd (omega (arith, few))
 
--- behind it the thread may make its call once more
+-- after it the thread may make its call once more
 pub awaits_again : {told : Bool} {script : Script} {config : Config} {shown later : Shown} {forced : ℕ} {old new : Row}
     {t need : ℕ} → forced < 2 → LacksWords told script config shown forced old t need
     → MakesCollection true shown later old new → AwaitsCall told script config later (suc forced) new t
@@ -56,7 +56,7 @@ awaits_again {told} {script} {config} {shown} {later} {forced} {old} {new} {t} {
       stands = stands_collected stands made (λ is. lacks.tight)
           (room_owes old.states t lacks.waits (omega (arith, few)));
       few = omega (arith, few);
-      owed = subst (OweBehindCollects script) (sym made.states) lacks.owed;
+      owed = subst (OweAfterCollects script) (sym made.states) lacks.owed;
       collected = just_collected true shown later old new made;
       own = subst NoneOwn (sym made.states) lacks.own;
       waits = subst (λ (xs : List ThreadState). WaitsForRoom xs t) (sym made.states) lacks.waits;
@@ -88,7 +88,7 @@ unfit {shown} {run} {t} {forced} {need} tells script config lacks held holds =
     let above : run.words < held + need = tells lacks.stands.disk lacks.stands.table.stands held holds in
     omega (arith, above, lacks.stands.words)
 
--- behind two forced Moves there is no room for what a call lacked
+-- after two forced Moves there is no room for what a call lacked
 unfit_twice : {shown : Shown} {run : Row} {t need forced : ℕ} (script : Script) (config : Config) → 2 ≤ forced
     → LacksWords true script config shown forced run t need → NoRoom config run.view need
 unfit_twice {shown} {run} {t} {need} {forced} script config twice lacks =
@@ -97,7 +97,7 @@ unfit_twice {shown} {run} {t} {need} {forced} script config twice lacks =
     (let few : forced ≤ 2 = lacks.few in omega (arith, few, twice)) lacks in
     again.left refl
 
--- where a call lacked words that do not fit, or lacked them behind the last Move, they have no room
+-- where a call lacked words that do not fit, or lacked them after the last Move, they have no room
 pub no_room_left : {shown : Shown} {run : Row} {t forced need : ℕ}
     → (2 ≤ forced) ⊎ ((disk : OnDisk) → Standing true disk run.view → (held : ℕ)
     → CostsSum (words_of run.view.log) (Held (value run.view)) held → run.words < held + need)
@@ -110,7 +110,7 @@ no_room_left {shown} {run} {t} {forced} {need} why told script config lacks =
       | inr not ↦ unfit not script config is
     ]) lacks
 
--- a run that was stopped behind a forced Move
+-- a run that was stopped after a forced Move
 pub forced_stops : {shown mid : Shown} (later : Shown) {old run : Row} (t need forced : ℕ) (stop : Stop)
     → MakesCollection true shown mid old run → forced < 2 → StopsBut mid later run stop
     → StopsFrom (λ told script config. LacksWords told script config shown forced old t need) later stop
@@ -122,23 +122,23 @@ pub stops_first : (shown later : Shown) (run : Row) (t : ℕ) (stop : Stop) → 
     → StopsFrom (λ told script config. AwaitsCall told script config shown 0 run t) later stop
 stops_first shown later run t stop stops told script config awaits = stops told script config (1, awaits.stands)
 
--- What a run came to behind so many Moves is told as what the one before them came to.
+-- What a run came to after so many Moves is told as what the one before them came to.
 abbrev pub Moved : Bool → Script → Config → (forced : ℕ) → (first run : Row) → (t need more : ℕ) → Type 0
 Moved told script config forced first run t need more = (n : ℕ) (new : Row)
-    → MovesBehind told script config forced n run new t more
-    → MovesBehind told script config 0 (forced + n) first new t need
+    → MovesAfter told script config forced n run new t more
+    → MovesAfter told script config 0 (forced + n) first new t need
 
--- behind no Move yet
+-- after no Move yet
 pub moved_none : (told : Bool) (script : Script) (config : Config) (run : Row) (t need : ℕ)
     → Moved told script config 0 run run t need need
-moved_none told script config run t need n new behind =
-    subst (λ (k : ℕ). MovesBehind told script config 0 k run new t need) (omega arith) behind
+moved_none told script config run t need n new after =
+    subst (λ (k : ℕ). MovesAfter told script config 0 k run new t need) (omega arith) after
 
--- and behind one more, where the call lacked words again
+-- and after one more, where the call lacked words again
 pub moved_again : {told : Bool} {script : Script} {config : Config} {forced : ℕ} (first : Row) {run again : Row}
     {t : ℕ} (need : ℕ) {more next : ℕ} → Moved told script config forced first run t need more
     → MovesOnce told script config (suc forced) run again t (Some next)
     → Moved told script config (suc forced) first again t need next
-moved_again {told} {script} {config} {forced} first {run} {again} {t} need {more} {next} moved once n new behind =
-    subst (λ (k : ℕ). MovesBehind told script config 0 k first new t need) (omega arith)
-    (moved (suc n) new (inr (next, (again, once, behind))))
+moved_again {told} {script} {config} {forced} first {run} {again} {t} need {more} {next} moved once n new after =
+    subst (λ (k : ℕ). MovesAfter told script config 0 k first new t need) (omega arith)
+    (moved (suc n) new (inr (next, (again, once, after))))

@@ -12,7 +12,7 @@ abbrev pub is_collect : Op → Bool
 is_collect Collect = true
 is_collect o = false
 
--- how many silent collections come with so many replies of a thread: one behind each that is a multiple of the number
+-- how many silent collections come with so many replies of a thread: one after each that is a multiple of the number
 abbrev pub silent_in : (every count : ℕ) → ℕ
 silent_in zero count = 0
 silent_in (suc every) count = count / suc every

@@ -33,7 +33,7 @@ abbrev pub AllMarked : View → Type 0
 AllMarked v = (a : ℕ) (header : Header) → IsNamed (maps v) a → HeaderAt (state no_homes_on v) a header
     → (HoldsAt (state no_homes_on v) a → ⊥) → header.stale ≡ true
 
--- of the words that were made behind the last collection, all are in use
+-- of the words that were made after the last collection, all are in use
 abbrev pub MadeSoFar : Config → View → List Journal → Type 0
 MadeSoFar config v journal = HasMade (config.heap * length journal) v
 
@@ -65,7 +65,7 @@ pub record CollectedOver (told : Bool) (phase : Phase) (later : Shown) (free : L
   pub marked : told ≡ true → phase ≡ Move → AllMarked w
   pub tight : told ≡ true → phase ≡ Move → AllMarked v → entry.live ≡ entry.held
 
--- A collection of the phase was made and written down, and the next one planned by that. A new epoch has begun, behind
+-- A collection of the phase was made and written down, and the next one planned by that. A new epoch has begun, after
 -- the words in use. The disk ends where it ended, or further on after a Move, within its limit.
 pub record CollectsCore (phase : Phase) (shown later : Shown) (v w : View) (old new : Collector) : Type 0 where
   pub entry : Journal

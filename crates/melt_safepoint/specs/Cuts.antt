@@ -34,7 +34,7 @@ registers_at script log cut t r =
     if cut.ended t then Nil else value_in (registers_after (history_at log cut) t (operations script t) (cut.replies t))
     r
 
--- behind so many replies of a thread a silent collection is due
+-- after so many replies of a thread a silent collection is due
 pub record IsDue (config : Config) (count : ℕ) : Type 0 where
   pub asked : config.every ≢ 0
   pub some : count ≢ 0
@@ -45,12 +45,12 @@ abbrev pub IsOver : Script → Config → Cut → ℕ → Type 0
 IsOver script config cut t = (cut.ended t ≡ true) ⊎ IsDue config (length (operations script t))
 
 -- The replies that the threads had at the moment take exactly the entries that the history had. A thread that had ended
--- got no further one, and one with all its replies had ended, unless a silent collection was due behind the last.
+-- got no further one, and one with all its replies had ended, unless a silent collection was due after the last.
 pub record IsCut (script : Script) (log : List Entry) (replies : ℕ → List Reply) (config : Config)
     (cut : Cut) : Type 0 where
   pub within : cut.entries ≤ length log
   pub few : (t : ℕ) → cut.replies t ≤ length (replies t)
-  pub told : (t : ℕ) → Transcript (history_at log cut) t (operations script t) (take (cut.replies t) (replies t))
+  pub transcripts : (t : ℕ) → Transcript (history_at log cut) t (operations script t) (take (cut.replies t) (replies t))
   pub last : (t : ℕ) → cut.ended t ≡ true → cut.replies t ≡ length (replies t)
   pub over : (t : ℕ) → cut.replies t ≡ length (operations script t) → IsOver script config cut t
 
@@ -72,7 +72,7 @@ ReachesWords script log cut words =
     CostsSum (words_of (history_at log cut)) (Alive (history_at log cut) (registers_at script log cut)) words
 
 -- The moment of a collection. Its journal has the words that registers held then; and what registers and globals
--- reached had room in the words in use behind it and in those of all homes on disk, of which the first is word 1.
+-- reached had room in the words in use after it and in those of all homes on disk, of which the first is word 1.
 pub record IsCollectedAt (script : Script) (log : List Entry) (entry : Journal) (cut : Cut) : Type 0 where
   pub holds : HoldsWords script log cut entry.held
   pub alive : ℕ
@@ -84,7 +84,7 @@ abbrev pub EndsWithCollect : List Op → Type 0
 EndsWithCollect ops = (k : ℕ) × (length ops ≡ suc k) × (slice_get ops k ≡ Some Collect)
 
 -- At the moment the next operation of the thread needs more words than the heap has beside those of the objects that
--- registers hold. All silent collections were made by then, but for those behind a `collect` that was answered at the
+-- registers hold. All silent collections were made by then, but for those after a `collect` that was answered at the
 -- same safepoint.
 pub record LacksRoom (script : Script) (log : List Entry) (replies : ℕ → List Reply) (config : Config) (cut : Cut)
     (t held_words need : ℕ) : Type 0 where

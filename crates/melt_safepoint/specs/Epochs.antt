@@ -15,7 +15,7 @@ abbrev pub to_do : List ThreadState → ℕ
 to_do states = sum (map jobs_of states)
 
 -- An epoch may begin: no forwarding word is filled, and no thread waits for a collection. One that lacked room may make
--- its call before all others, behind a collection.
+-- its call before all others, after a collection.
 abbrev pub MayRunEpoch : Bool → Script → Config → Shown → Option ℕ → Row → Type 0
 MayRunEpoch told script config shown None run =
     RunStands told script config shown run × NoneForwarded run.view × NoneOwn run.states

@@ -5,6 +5,6 @@ use Rattle.melt_model.specs.declared.history.Entry.{Entry}
 use Rattle.melt_model.specs.declared.reports.Journal.{Journal}
 use Rattle.melt_core.specs.Made.{made_words}
 
--- Before the first collection, and behind each, no more words were made than the heap has.
+-- Before the first collection, and after each, no more words were made than the heap has.
 abbrev pub MakesWithin : Config → List Entry → List Journal → Type 0
 MakesWithin config log journal = made_words log ≤ config.heap * (length journal + 1)

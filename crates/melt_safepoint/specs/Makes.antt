@@ -15,7 +15,7 @@ use Rattle.melt_safepoint.specs.Rows.{AwaitsCall, Row, journal_of}
 use Rattle.melt_safepoint.specs.Shown.{Shown}
 use Rattle.melt_safepoint.specs.Threads.{NoneBelow, collections_due}
 
--- A Move was made, whatever was planned, the last of so many that were forced in a row. Behind it the thread awaited
+-- A Move was made, whatever was planned, the last of so many that were forced in a row. After it the thread awaited
 -- its call, over what was shown then, and an epoch began with that.
 pub record MovesOnce (told : Bool) (script : Script) (config : Config) (forced : ℕ) (old new : Row) (t : ℕ)
     (lacks : Option ℕ) : Type 0 where
@@ -42,19 +42,19 @@ pub record GoesOnWithout (old new : Row) (t need : ℕ) : Type 0 where
   pub ends : EndsForRoom old gone t need
   pub goes : GoesOnFrom shown gone new
 
--- So many Moves were made behind a call that lacked words, each behind the first one as the call lacked words once
--- more; and where it lacked words behind the last, its thread ended.
-abbrev pub MovesBehind : Bool → Script → Config → (forced n : ℕ) → Row → Row → (t need : ℕ) → Type 0
-MovesBehind told script config forced zero lacked new t need = GoesOnWithout lacked new t need
-MovesBehind told script config forced (suc n) lacked new t need =
+-- So many Moves were made after a call that lacked words, each after the first one as the call lacked words once
+-- more; and where it lacked words after the last, its thread ended.
+abbrev pub MovesAfter : Bool → Script → Config → (forced n : ℕ) → Row → Row → (t need : ℕ) → Type 0
+MovesAfter told script config forced zero lacked new t need = GoesOnWithout lacked new t need
+MovesAfter told script config forced (suc n) lacked new t need =
     ((n ≡ 0) × MovesOnce told script config (suc forced) lacked new t None)
     ⊎ ((more : ℕ) × ((again : Row) × MovesOnce told script config (suc forced) lacked again t (Some more)
-    × MovesBehind told script config (suc forced) n again new t more))
+    × MovesAfter told script config (suc forced) n again new t more))
 
 -- and two at most
 abbrev pub MovesFew : Bool → Script → Config → Row → Row → (t need : ℕ) → Type 0
 MovesFew told script config lacked new t need = (n : ℕ) × (n ≤ 2)
-    × MovesBehind told script config 0 n lacked new t need
+    × MovesAfter told script config 0 n lacked new t need
 
 -- An epoch began with the call of a thread, and two Moves at most were made, only where that lacked words.
 abbrev pub MakesRoom : Bool → Script → Config → Shown → Row → Row → ℕ → Type 0
@@ -77,11 +77,11 @@ pub record MakesForRoom (told : Bool) (script : Script) (config : Config) (due :
   pub awaits : AwaitsCall told script config shown 0 mid t
   pub makes : MakesRoom told script config shown mid new t
 
--- no thread lacked room, and all went on behind their own collections
-pub record GoesOnBehind (own : List Journal) (new : Row) : Type 0 where
+-- no thread lacked room, and all went on after their own collections
+pub record GoesOnAfter (own : List Journal) (new : Row) : Type 0 where
   pub shown : Shown
   pub mid : Row
-  pub behind : journal_of mid ≡ own
+  pub after : journal_of mid ≡ own
   pub goes : GoesOnFrom shown mid new
 
 -- The collections of a safepoint: one as it was planned for each thread that waits for one of its own, and then those
@@ -89,6 +89,6 @@ pub record GoesOnBehind (own : List Journal) (new : Row) : Type 0 where
 pub record MakesCollections (told : Bool) (script : Script) (config : Config) (old new : Row) : Type 0 where
   pub own : List Journal
   pub asked : Planned config (collections_due old.states) (journal_of old) own
-  pub room : (NoneLacks old.states × GoesOnBehind own new)
+  pub room : (NoneLacks old.states × GoesOnAfter own new)
       ⊎ ((t : ℕ) × WaitsForRoom old.states t × NoneBelow (λ mode. mode ≡ Lacking) old.states t
       × MakesForRoom told script config (collections_due old.states) own new t)

@@ -7,7 +7,7 @@ use Rattle.melt_safepoint.specs.Modes.{ForCollection, IsPaused, owes_silent, Wai
 use Rattle.melt_safepoint.specs.Threads.{jobs_of, NoneWaits}
 
 -- The collection of a thread was made, if it waited for one, and it waits no longer. A silent collection is due then
--- only behind the `collect` that was answered.
+-- only after the `collect` that was answered.
 pub record CollectedFor (s after : ThreadState) : Type 0 where
   pub fewer : ForCollection s.mode → jobs_of after < jobs_of s
   pub goes : ForCollection s.mode → IsPaused after.mode → ⊥
@@ -51,7 +51,7 @@ pub record Resumed (states after : List ThreadState) : Type 0 where
   pub each : (t : ℕ) (s : ThreadState) → slice_get states t ≡ Some s → (x : ThreadState) × (slice_get after t ≡ Some x)
       × (jobs_of x ≡ jobs_of s)
 
--- A safepoint: no thread waits behind it, none has more to do than before, and one has less.
+-- A safepoint: no thread waits after it, none has more to do than before, and one has less.
 pub record Passed (states after : List ThreadState) : Type 0 where
   pub goes : NoneWaits after
   pub count : length after ≡ length states

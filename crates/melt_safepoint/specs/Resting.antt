@@ -18,7 +18,7 @@ use Rattle.melt_safepoint.specs.declared.collector.HeapRefusal.TheVariants.{NoMe
 use Rattle.melt_safepoint.specs.declared.ending.Left.{Left}
 
 -- What a machine has beside its heap between two epochs: the names of objects, for contracts at least; the registers
--- and the call in flight of each thread, and the words that each read behind the head of a record; the history, how
+-- and the call in flight of each thread, and the words that each read after the head of a record; the history, how
 -- many entries it has room for, and how many objects were made in it.
 pub record Beside : Type 0 where
   pub names : Option name_table.Names

@@ -25,7 +25,7 @@ use Rattle.melt_safepoint.specs.Needs.{NeedsWords}
 use Rattle.melt_safepoint.specs.Passing.{NoneOwn, WaitsForRoom}
 use Rattle.melt_safepoint.specs.Shown.{Shown, Underlies}
 use Rattle.melt_safepoint.specs.Tables.{TableStands}
-use Rattle.melt_safepoint.specs.Threads.{OweBehindCollects, collections_due}
+use Rattle.melt_safepoint.specs.Threads.{OweAfterCollects, collections_due}
 use Rattle.melt_safepoint.specs.declared.collector.Collector.{Collector}
 use Rattle.melt_safepoint.specs.declared.collector.CollectRefusal.{CollectRefusal}
 use Rattle.melt_safepoint.specs.declared.collector.CollectRefusal.TheVariants as refused
@@ -173,13 +173,13 @@ LeftBy zero v = Unit {0}
 LeftBy (suc zero) v = AllMarked v
 LeftBy (suc (suc k)) v = OnlyHeld v
 
--- A run at a safepoint, behind a collection, and behind so many that were forced in a row: a thread that lacked room is
+-- A run at a safepoint, after a collection, and after so many that were forced in a row: a thread that lacked room is
 -- to make its call first, which pays for these collections. No thread waits for one of its own.
 pub record AwaitsCall (told : Bool) (script : Script) (config : Config) (shown : Shown) (forced : ℕ) (run : Row)
     (t : ℕ) : Type 0 where
   pub stands : StandsBut (suc forced) told script config shown run
   pub few : forced ≤ 2
-  pub owed : OweBehindCollects script run.states
+  pub owed : OweAfterCollects script run.states
   pub collected : JustCollected run
   pub own : NoneOwn run.states
   pub waits : WaitsForRoom run.states t
@@ -193,18 +193,18 @@ SomeAwaits shown forced run t = (told : Bool) × (script : Script) × (config : 
 abbrev pub NoRoom : Config → View → ℕ → Type 0
 NoRoom config v need = (held : ℕ) → CostsSum (words_of v.log) (Held (value v)) held → config.heap < held + need
 
--- what so many forced Moves in a row tell of a call that lacked words behind them
+-- what so many forced Moves in a row tell of a call that lacked words after them
 abbrev pub LacksBy : Config → ℕ → View → ℕ → Type 0
 LacksBy config zero v need = Unit {0}
 LacksBy config (suc zero) v need = AllMarked v
 LacksBy config (suc (suc k)) v need = NoRoom config v need
 
--- The thread made its call, behind so many forced Moves in a row, and lacked so many words.
+-- The thread made its call, after so many forced Moves in a row, and lacked so many words.
 pub record LacksWords (told : Bool) (script : Script) (config : Config) (shown : Shown) (forced : ℕ) (run : Row)
     (t need : ℕ) : Type 0 where
   pub stands : StandsBut (suc forced) told script config shown run
   pub few : forced ≤ 2
-  pub owed : OweBehindCollects script run.states
+  pub owed : OweAfterCollects script run.states
   pub own : NoneOwn run.states
   pub none_forwarded : NoneForwarded run.view
   pub waits : WaitsForRoom run.states t

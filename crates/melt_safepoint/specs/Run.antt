@@ -133,7 +133,7 @@ pub record IsStepReport (told : Bool) (script : Script) (config : Config) (repor
   pub bounded : length report.journal ≤ collections script config (replies_in report) (length report.threads)
       + 3 * (replies_told report + length report.threads)
 
--- the value of a register of a thread behind all its replies, if it was halted; else it holds nothing
+-- the value of a register of a thread after all its replies, if it was halted; else it holds nothing
 abbrev pub register_left : Script → Report → ℕ → ℕ → Value
 register_left script report t r =
     if option_map_or (λ (x : ThreadReport). is_halted x.end) (slice_get report.threads t) false

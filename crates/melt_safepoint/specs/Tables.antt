@@ -36,9 +36,9 @@ use Rattle.melt_safepoint.specs.Endings.{EndsSo, IsLostBy}
 
 -- What a thread was told stands in the history: these replies to its first operations. What it holds by them is in its
 -- registers, until it ends.
-pub record IsTold (script : Script) (v : View) (t : ℕ) (s : ThreadState) : Type 0 where
+pub record RepliesStand (script : Script) (v : View) (t : ℕ) (s : ThreadState) : Type 0 where
   pub registers : List Value
-  pub told : Stands v.log t (take (length s.replies.items) (operations script t)) s.replies.items registers
+  pub stands : Stands v.log t (take (length s.replies.items) (operations script t)) s.replies.items registers
   pub in_registers : IsEnded s.mode ⊎ (registers ≡ values_of v t)
 
 -- A thread of the script has these replies to its first operations, and the others are to come.
@@ -46,7 +46,7 @@ pub record ThreadStands (told : Bool) (script : Script) (v : View) (t : ℕ) (s 
   pub to_come : left s ≡ drop (length s.replies.items) (operations script t)
   pub within : length s.replies.items + length (left s) ≡ length (operations script t)
   pub none_left : s.op ≡ None → s.cursor.operations ≡ []
-  pub is_told : told ≡ true → IsTold script v t s
+  pub replies_stand : told ≡ true → RepliesStand script v t s
   pub dropped : IsEnded s.mode → values_of v t ≡ replicate 16 Nil
   pub call : (c : Call) → call_of v t ≡ Some c → (s.mode ≡ Running) × (s.op ≡ Some c.op) × (c.op ≢ Collect)
   pub fits : FitsMode s.mode s.op

@@ -12,7 +12,7 @@ use Rattle.melt_safepoint.specs.declared.thread.Mode.TheVariants.{Running, Due, 
 use Rattle.melt_safepoint.specs.declared.thread.ThreadState.{ThreadState}
 use Rattle.melt_safepoint.specs.Modes.{IsEnded, owes_silent, owes, collections_for, MayGo, IsPaused, jobs, halted_mode}
 
--- the next operation, if there is one, and those behind it
+-- the next operation, if there is one, and those after it
 abbrev pub with_first : Option Op → List Op → List Op
 with_first None ops = ops
 with_first (Some o) ops = o ∷ ops
@@ -32,8 +32,8 @@ abbrev pub HadCollect : Script → ℕ → ThreadState → Type 0
 HadCollect script t s = (k : ℕ) × (length s.replies.items ≡ suc k) × (slice_get (operations script t) k ≡ Some Collect)
 
 -- a thread has a silent collection still to come only where its last reply was that to a collection
-abbrev pub OweBehindCollects : Script → List ThreadState → Type 0
-OweBehindCollects script states = (t : ℕ) (s : ThreadState) → slice_get states t ≡ Some s → owes_silent s.mode ≡ true
+abbrev pub OweAfterCollects : Script → List ThreadState → Type 0
+OweAfterCollects script states = (t : ℕ) (s : ThreadState) → slice_get states t ≡ Some s → owes_silent s.mode ≡ true
     → HadCollect script t s
 
 -- how many threads have a silent collection still to come
@@ -55,8 +55,8 @@ abbrev pub most_forwards : ℕ
 most_forwards = 65536
 
 -- a thread goes on with its next operation, or has ended without one
-abbrev pub GoesOn : ThreadState → ThreadState → Type 0
-GoesOn s after = (IsSome s.op × (after ≡ record s { mode = Running }))
+abbrev pub RunsOrEnds : ThreadState → ThreadState → Type 0
+RunsOrEnds s after = (IsSome s.op × (after ≡ record s { mode = Running }))
     ⊎ ((s.op ≡ None) × (after ≡ record s { mode = Ended end.Done }))
 
 -- What a reply leaves of a thread. If it has ended with it, its registers hold nothing.

@@ -23,7 +23,7 @@ ghost use Rattle.melt_safepoint.specs.Rows.{RefusalStores, StopCounts, StopKeeps
 use crate::collector::{CollectRefusal, Collector};
 use crate::ending::{Left, Stop};
 use crate::run::Run;
-use crate::space::Space;
+use crate::space::DiskSpace;
 use std::alloc::Global;
 
 /// The heap of a run, the registers of its threads and its history, between two epochs.
@@ -65,7 +65,7 @@ pub struct Engine<C, F> {
 
 impl<C, F> Engine<C, F> {
     /// Makes a collection between two epochs: the one that is planned, or a Move where `force` says so.
-    pub(crate) fn collect<'a, E: Machine, S: Space>(
+    pub(crate) fn collect<'a, E: Machine, S: DiskSpace>(
         &self,
         machine: E,
         alloc: Global,
@@ -102,7 +102,7 @@ impl<C, F> Engine<C, F> {
 
     /// Lets the threads go through an epoch, each as far as it can. Where a thread is to be the first, it makes its
     /// call before all others, and where that lacks words, no other goes on: these words are answered.
-    pub(crate) fn run_epoch<'a, E: Machine, S: Space>(
+    pub(crate) fn run_epoch<'a, E: Machine, S: DiskSpace>(
         &self,
         run: Run<'a, E>,
         alloc: Global,

@@ -1,7 +1,7 @@
 //! What runs share at safepoints and between them, whoever gives out their events.
 //!
 //! A thread of a run has its operations, its replies so far, and a mode, which says what it does next or waits for. By
-//! the modes of its threads a safepoint knows which collections to make, and who goes on behind it. In the end a run
+//! the modes of its threads a safepoint knows which collections to make, and who goes on after it. In the end a run
 //! reports its threads, its collections and the heap that is left, and what such a report says of a trace is said here
 //! once, for all runs.
 #![tactic(auto)]
@@ -21,6 +21,6 @@ pub use ending::{Ended, Left, Stop, halt_run};
 pub use engine::{Engine, Machine};
 pub use memory::keep_memory;
 pub use run::Run;
-pub use space::{Space, tells};
+pub use space::{DiskSpace, tells};
 pub use thread::{Mode, ThreadState, halt_all, mode_after, new_states, words_lacked};
 pub use whole::run_by_engine;

@@ -23,7 +23,7 @@ ghost use Rattle.melt_safepoint.specs.declared.thread.ThreadState.{ThreadState};
 use crate::collector::{CollectRefusal, Collector};
 use crate::ending::{Ended, Stop};
 use crate::engine::{Engine, Machine};
-use crate::space::Space;
+use crate::space::DiskSpace;
 use crate::thread::{Mode, ThreadState};
 use melt_model::Ghost;
 use std::alloc::Global;
@@ -93,7 +93,7 @@ impl<'a, E: Machine> Run<'a, E> {
     }
 
     /// Lets the threads go on in an epoch, unless all have ended.
-    pub(crate) fn go_on<S: Space, C, F>(
+    pub(crate) fn next_epoch<S: DiskSpace, C, F>(
         self,
         alloc: Global,
         space: &mut S,
@@ -137,7 +137,7 @@ impl<'a, E: Machine> Run<'a, E> {
     }
 
     /// Runs epoch after epoch until all threads have ended.
-    pub(crate) fn run_all<S: Space, C, F>(
+    pub(crate) fn run_all<S: DiskSpace, C, F>(
         self,
         alloc: Global,
         space: &mut S,
@@ -178,7 +178,7 @@ impl<'a, E: Machine> Run<'a, E> {
             → StopTwice n 1 (S.sees.lends space.old) (S.sees.lends space.new) (journal_of (row_of E.view self.entry))
             stop) }
     {
-        let mut run = self.go_on(alloc, space, engine)?;
+        let mut run = self.next_epoch(alloc, space, engine)?;
         while !run.has_ended() {
             run = run.pass_safepoint(alloc, space, engine)?;
         }

@@ -33,14 +33,14 @@ use crate::collector::{CollectRefusal, Collector};
 use crate::ending::{Stop, halt_run};
 use crate::engine::{Engine, Machine};
 use crate::run::Run;
-use crate::space::Space;
+use crate::space::DiskSpace;
 use crate::thread::Mode;
 use melt_model::{Halt, ThreadEnd};
 use std::alloc::Global;
 
 impl<'a, E: Machine> Run<'a, E> {
     /// Makes a collection: the one that is planned, or a Move where `force` says so.
-    fn collect<S: Space, C, F>(
+    fn collect<S: DiskSpace, C, F>(
         mut self,
         alloc: Global,
         space: &mut S,
@@ -106,7 +106,7 @@ impl<'a, E: Machine> Run<'a, E> {
     }
 
     /// Makes the collection for which a thread waits, if it waits for one of its own.
-    fn collect_for<S: Space, C, F>(
+    fn collect_for<S: DiskSpace, C, F>(
         self,
         alloc: Global,
         space: &mut S,
@@ -156,7 +156,7 @@ impl<'a, E: Machine> Run<'a, E> {
     }
 
     /// Makes the collections for which threads wait, in ascending order.
-    fn collect_for_all<S: Space, C, F>(
+    fn collect_for_all<S: DiskSpace, C, F>(
         self,
         alloc: Global,
         space: &mut S,
@@ -209,7 +209,7 @@ impl<'a, E: Machine> Run<'a, E> {
         u64::from(self.machine.held()) + u64::from(need) <= u64::from(self.words)
     }
 
-    /// Whether a Move more may be forced for so many words, behind so many in a row.
+    /// Whether a Move more may be forced for so many words, after so many in a row.
     fn may_move(&self, need: u32, forced: u32) -> bool
         requires { IsSound (E.view self.now.machine) }
         ensures some { result ≡ true → forced < 2 }
@@ -239,9 +239,9 @@ impl<'a, E: Machine> Run<'a, E> {
         self
     }
 
-    /// Makes a call once more that lacked words, behind a Move that is forced, and behind a second one where it lacks
+    /// Makes a call once more that lacked words, after a Move that is forced, and after a second one where it lacks
     /// words still. Its thread ends as soon as they have no room beside what registers hold; the others go on.
-    fn move_for<S: Space, C, F>(
+    fn move_for<S: DiskSpace, C, F>(
         self,
         alloc: Global,
         space: &mut S,
@@ -296,13 +296,14 @@ impl<'a, E: Machine> Run<'a, E> {
                 Some(more) => need = more,
             }
         }
-        run.out_of_heap(thread, need).go_on(alloc, space, engine)
+        run.out_of_heap(thread, need)
+            .next_epoch(alloc, space, engine)
     }
 
-    /// Lets the first thread that lacked room make its call, behind a collection, and then all others go on. Where it
+    /// Lets the first thread that lacked room make its call, after a collection, and then all others go on. Where it
     /// lacks room still, what no register holds is moved to the disk, in two Moves at most: one leaves it stale, and
     /// the next writes it.
-    fn make_room<S: Space, C, F>(
+    fn make_room<S: DiskSpace, C, F>(
         self,
         alloc: Global,
         space: &mut S,
@@ -355,7 +356,7 @@ impl<'a, E: Machine> Run<'a, E> {
 
     /// What is done when no thread can go on: collections for those that wait for one, then an epoch. Where a thread
     /// lacked room, its call is made first in it, after a collection if there was none.
-    pub(crate) fn pass_safepoint<S: Space, C, F>(
+    pub(crate) fn pass_safepoint<S: DiskSpace, C, F>(
         self,
         alloc: Global,
         space: &mut S,
@@ -400,7 +401,7 @@ impl<'a, E: Machine> Run<'a, E> {
         let made = self.collector.journal.len();
         let run = self.collect_for_all(alloc, space, engine)?;
         let Some(thread) = run.lacking() else {
-            return run.go_on(alloc, space, engine);
+            return run.next_epoch(alloc, space, engine);
         };
         let run = if run.collector.journal.len() == made {
             run.collect(alloc, space, engine, false)?

@@ -7,12 +7,12 @@ use melt_io::StaleDisk;
 use melt_model::Ghost;
 
 /// A disk of homes. A row of epochs hands it to its engine, and asks it for nothing itself.
-pub trait Space {
+pub trait DiskSpace {
     /// What is seen of it.
     ghost sees: { Sees Self };
 }
 
-impl<'d, D: StaleDisk> Space for StaleSpace<'d, D> {
+impl<'d, D: StaleDisk> DiskSpace for StaleSpace<'d, D> {
     ghost sees = { sees_stale D.image D.faults D.read_faults D.lends };
 }
 

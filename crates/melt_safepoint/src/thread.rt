@@ -2,7 +2,7 @@
 ghost use Rattle.std.specs.Prelude.{◌≡◌, ◌<◌, ◌↔◌, length, vec_capacity, IsTrue, IsSome, IfOk, true, Some, None};
 ghost use Rattle.melt_trace.specs.Script.{operations};
 ghost use Rattle.melt_safepoint.specs.Modes.{CallsAgain, IsEnded, MayGo, mode_for, words_lacked_by};
-ghost use Rattle.melt_safepoint.specs.Threads.{AreHalted, AreNewThreads, DueBy, GoesOn, IsNewThread, TakesReply};
+ghost use Rattle.melt_safepoint.specs.Threads.{AreHalted, AreNewThreads, DueBy, RunsOrEnds, IsNewThread, TakesReply};
 ghost use Rattle.melt_safepoint.specs.Threads.{halted};
 
 use melt_core::{Pause, Refusal};
@@ -28,7 +28,7 @@ pub enum Mode {
     Ended(ThreadEnd),
 }
 
-/// A thread of a run: its next operation, those behind it, and its replies so far.
+/// A thread of a run: its next operation, those after it, and its replies so far.
 #[derive(Drop)]
 pub struct ThreadState<'a> {
     pub op: Option<Op>,
@@ -51,7 +51,7 @@ impl<'a> ThreadState<'a> {
             replies: Vec::with_capacity(alloc, trace.count(thread) as usize)?,
             mode: Mode::Running,
         };
-        state.go_on();
+        state.run_or_end();
         Ok(state)
     }
 
@@ -76,7 +76,7 @@ impl<'a> ThreadState<'a> {
     }
 
     /// Goes on with the next operation. A thread without one has ended.
-    pub fn go_on(&mut self)
+    pub fn run_or_end(&mut self)
         ensures only { self.new ≡ record self.old { mode = self.new.mode } }
         ensures runs { IsSome self.old.op → self.new.mode ≡ Mode.Running }
         ensures ended { self.old.op ≡ None → self.new.mode ≡ Mode.Ended ThreadEnd.Done }
@@ -124,25 +124,25 @@ impl<'a> ThreadState<'a> {
         if every != 0 && self.replies.len() as u64 % every as u64 == 0 {
             self.mode = Mode::Due;
         } else {
-            self.go_on();
+            self.run_or_end();
         }
     }
 
-    /// Goes on behind the collection for which it waited: with the reply, if that was its next operation.
+    /// Goes on after the collection for which it waited: with the reply, if that was its next operation.
     pub fn take_collection(&mut self, every: u32)
         requires { self.old.mode ≡ Mode.Collecting → length self.old.replies.items < vec_capacity self.old.replies }
         ensures takes { self.old.mode ≡ Mode.Collecting → TakesReply self.old self.new Reply.Done }
         ensures due { self.old.mode ≡ Mode.Collecting → DueBy every self.old self.new }
-        ensures silent { self.old.mode ≡ Mode.Silent → GoesOn self.old self.new }
+        ensures silent { self.old.mode ≡ Mode.Silent → RunsOrEnds self.old self.new }
     {
         match self.mode {
             Mode::Collecting => self.take_reply(Reply::Done, every),
-            _ => self.go_on(),
+            _ => self.run_or_end(),
         }
     }
 }
 
-/// What a thread does behind a call that was refused. One whose record could not be read, or is none, has ended.
+/// What a thread does after a call that was refused. One whose record could not be read, or is none, has ended.
 pub fn mode_after(refusal: Refusal) -> Mode
     ensures { result ≡ mode_for refusal }
 {

@@ -15,14 +15,14 @@ use crate::collector::{CollectRefusal, Collector};
 use crate::ending::Stop;
 use crate::engine::{Engine, Machine};
 use crate::run::Run;
-use crate::space::Space;
+use crate::space::DiskSpace;
 use melt_model::{NoMemory, Report};
 use melt_scion::Heap;
 use std::alloc::Global;
 
 /// Runs all epochs of a run that was just begun by an engine, until its threads have ended or the disk halts it, and
 /// answers what came of it.
-pub fn run_by_engine<'a, E: Machine, S: Space, C, F>(
+pub fn run_by_engine<'a, E: Machine, S: DiskSpace, C, F>(
     run: Run<'a, E>,
     alloc: Global,
     space: &mut S,

@@ -89,7 +89,7 @@ module _ (maps : Maps) (s t : State) (x word : ℕ) (formed : FormedWords maps s
 
   -- a slot or a number word of an object
   pub keeps_part : (a n p : ℕ) (h : Header) → PartAt maps s a n p x h → 2 ≤ p → KeepsObjects maps maps s t
-  keeps_part a n p h part behind = keeps_word
+  keeps_part a n p h part after = keeps_word
       (λ b m named.
       let object = formed.objects b m named in
       parts_differ maps s formed part (head_part maps s b m object.0 named object.1.starts) (omega arith))
@@ -115,9 +115,9 @@ module _ (maps : Maps) (s t : State) (a n : ℕ) (h : Header) (formed : FormedWo
     (named : maps.address a ≡ Some n)
     (starts : HeaderAt s a h)
     (changes : WordChanges s t a (header_word (record { shape = h.shape; stale = false }))) where
-  -- a word behind a header is another
-  pub behind_cleared : (b m q y : ℕ) (k : Header) → PartAt maps s b m q y k → 1 ≤ q → t.word y ≡ s.word y
-  behind_cleared b m q y k part behind =
+  -- a word after a header is another
+  pub after_cleared : (b m q y : ℕ) (k : Header) → PartAt maps s b m q y k → 1 ≤ q → t.word y ≡ s.word y
+  after_cleared b m q y k part after =
       changes.others y (parts_differ maps s formed (head_part maps s a n h named starts) part (omega arith))
 
   cleared_starts : HeaderAt t a (fresh_header h)
@@ -161,6 +161,6 @@ module _ (maps : Maps) (s t : State) (a n : ℕ) (h : Header) (formed : FormedWo
     now = λ b m k named_b at_b. cleared_now b k at_b;
     home_word = λ b m named_b.
         let object = formed.objects b m named_b in
-        behind_cleared b m 1 (b + 1) object.0 (home_part maps s b m object.0 named_b object.1.starts) (omega arith);
+        after_cleared b m 1 (b + 1) object.0 (home_part maps s b m object.0 named_b object.1.starts) (omega arith);
     forwards = λ home b m named_b. same_forwards s t home b changes.base changes.forward;
   }

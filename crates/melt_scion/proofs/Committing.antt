@@ -41,7 +41,7 @@ none_sends s home tried gaps probed within empty a is =
       | inl before ↦
           let other = probed.others k before in
           other.2 (one_home (s.forward (probe home s.base.forwards k)) other.0 other.1 home a other.3 sends)
-      | inr behind ↦ elim (cases_eq k tried) [
+      | inr after ↦ elim (cases_eq k tried) [
         | inl same ↦
             let filled : s.forward (probe home s.base.forwards k) ≡ forward_word home a = sends.is in
             forward_word-filled home a sends.home_in_range

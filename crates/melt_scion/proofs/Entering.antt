@@ -121,10 +121,10 @@ module _ (maps new : Maps) (s t : State) (at n : ℕ) (z : Shape) (formed : Form
       | inr old_b ↦
           let object = formed.objects b k old_b in
           let apart = appears.owns.outside b k object.0 old_b object.1.starts in
-          let behind : at < b → at + cost_of z ≤ b = apart.behind in
+          let after : at < b → at + cost_of z ≤ b = apart.after in
           let cost : cost_of h.shape ≡ cost_of z = ap cost_of (new_shape a h new_a.0 starts) in
           let x : a ≡ at = new_a.0 in
-          let ends : at + cost_of z ≤ b = behind (omega arith) in
+          let ends : at + cost_of z ≤ b = after (omega arith) in
           omega arith
     ]
     | inr old_a ↦

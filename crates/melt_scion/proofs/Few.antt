@@ -70,7 +70,7 @@ few_apart size count place inside apart =
     (λ i within. let is = inside i within in let first = is.0 in let last = is.1 in omega (arith, first, last))
     (λ i j less within same. elim (apart i j less within) [
       | inl before ↦ omega (arith, before, same)
-      | inr behind ↦ omega (arith, behind, same)
+      | inr after ↦ omega (arith, after, same)
     ])
 
 -- the address of the object of a scion, if it is live
@@ -87,7 +87,7 @@ module _ (maps : Maps) (s : State) (live : List ℕ) (address n : ℕ) (formed :
     (named : maps.address address ≡ Some n) (none : (k : ℕ) (x : Scion) → s.base.scion k ≡ Some x → x.address ≢ address)
     (are : (i : ℕ) → i < length live → (x : Scion) × (s.base.scion (slice_index live i) ≡ Some x))
     (once : EachOnce live) where
-  -- the object without a scion, and behind it those of the live scions
+  -- the object without a scion, and after it those of the live scions
   place : ℕ → ℕ
   place zero = address
   place (suc i) = owner (s.base.scion (slice_index live i))
@@ -158,9 +158,9 @@ module _ (maps : Maps) (s : State) (live : List ℕ) (address n : ℕ) (formed :
             let far : place i + cost_of first.0.shape ≤ place j =
             formed.apart (place i) (place j) a.0 b.0 first.0 a.1 b.1 first.1.starts before in
             inl (omega (arith, far))
-        | inr (inr behind) ↦
+        | inr (inr after) ↦
             let far : place j + cost_of second.0.shape ≤ place i =
-            formed.apart (place j) (place i) b.0 a.0 second.0 b.1 a.1 second.1.starts behind in
+            formed.apart (place j) (place i) b.0 a.0 second.0 b.1 a.1 second.1.starts after in
             inr (omega (arith, far))
       ])
 

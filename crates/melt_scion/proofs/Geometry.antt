@@ -39,11 +39,11 @@ one_part {maps} {s} {a} {b} {n} {m} p q {h} {k} formed named_a named_b at_a at_b
           (λ e. other.1 (sym e)) in_a in_b is_x is_y)
     ]
 
--- a word behind the header of an object is no header
-pub behind_header : {maps : Maps} {s : State} (a : ℕ) {b n m : ℕ} (q : ℕ) {y : ℕ} {k : Header} → FormedWords maps s
+-- a word after the header of an object is no header
+pub after_header : {maps : Maps} {s : State} (a : ℕ) {b n m : ℕ} (q : ℕ) {y : ℕ} {k : Header} → FormedWords maps s
     → maps.address a ≡ Some n → maps.address b ≡ Some m → HeaderAt s b k → 1 ≤ q → q < cost_of k.shape → y ≡ b + q
     → a ≢ y
-behind_header a {n} q formed named_a named_b at_b behind within is =
+after_header a {n} q formed named_a named_b at_b after within is =
     let object = formed.objects a n named_a in
     elim (one_part 0 q formed named_a named_b object.1.starts at_b (omega arith) within (omega arith) is) [
       | inl same ↦ absurd (let e : q ≡ 0 = same.2 in omega arith)

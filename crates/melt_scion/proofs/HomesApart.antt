@@ -1,4 +1,4 @@
--- Where the homes of a disk lie: one behind the other, so that no two have a word in common.
+-- Where the homes of a disk lie: one after the other, so that no two have a word in common.
 use Rattle.std.proofs.Common.{◌≡◌, ◌≢◌, ◌⊎◌, ℕ, zero, suc, ◌+◌, ◌<◌, ◌≤◌, inl, inr, List, [], ◌∷◌, sym, ◌∙◌, ap, arith}
 use Rattle.std.specs.Prelude.{Some, slice_get}
 use Rattle.std.proofs.lemmas.Bool.{cases_order}
@@ -7,7 +7,7 @@ use Rattle.melt_word.specs.Words.{cost_of}
 use Rattle.melt_word.specs.declared.header.Shape.{Shape}
 use Rattle.melt_scion.specs.State.{Home, Follow, IsReserved}
 
--- homes that follow each other end behind where they begin
+-- homes that follow each other end past where they begin
 follow_up : (from end : ℕ) (homes : List Home) → Follow from homes end → from ≤ end
 follow_up from end [] follows = omega (arith, follows)
 follow_up from end (x ∷ homes) follows =
@@ -26,7 +26,7 @@ follow_within from end zero (x ∷ homes) y follows at =
     (omega arith, omega arith)
 follow_within from end (suc j) (x ∷ homes) y follows at =
     let rest = follow_within (from + cost_of x.shape) end j homes y follows.1 at in
-    let behind : from + cost_of x.shape ≤ y.at = rest.0 in
+    let after : from + cost_of x.shape ≤ y.at = rest.0 in
     (omega arith, rest.1)
 
 -- of two of them, the one that is named first ends before the other begins
@@ -39,7 +39,7 @@ follow_order from end zero (suc j) (w ∷ homes) {x} {y} follows first second le
     let here : x.at ≡ from = ap (λ (home : Home). home.at) (sym same) ∙ follows.0 in
     let cost : cost_of w.shape ≡ cost_of x.shape = ap (λ (home : Home). cost_of home.shape) same in
     let rest = follow_within (from + cost_of w.shape) end j homes y follows.1 second in
-    let behind : from + cost_of w.shape ≤ y.at = rest.0 in
+    let after : from + cost_of w.shape ≤ y.at = rest.0 in
     omega arith
 follow_order from end (suc i) (suc j) (w ∷ homes) {x} {y} follows first second less =
     follow_order (from + cost_of w.shape) end i j homes follows.1 first second (omega arith)
@@ -72,7 +72,7 @@ module _ (homes : List Home) (end : ℕ) (follows : Follow 1 homes end) where
   pub reserved_once : (home : ℕ) (z y : Shape) → IsReserved homes home z → IsReserved homes home y → z ≡ y
   reserved_once home z y is also = elim (reserved_apart home home z y is also) [
     | inl same ↦ same.1
-    | inr apart ↦ elim apart [ inl before ↦ absurd (omega arith) | inr behind ↦ absurd (omega arith) ]
+    | inr apart ↦ elim apart [ inl before ↦ absurd (omega arith) | inr after ↦ absurd (omega arith) ]
   ]
 
   -- a word of one home is none of another's
@@ -80,5 +80,5 @@ module _ (homes : List Home) (end : ℕ) (follows : Follow 1 homes end) where
       home ≢ other → j < cost_of z → (home + j < other) ⊎ (other + cost_of y ≤ home + j)
   reserved_words home other j z y is also differ below = elim (reserved_apart home other z y is also) [
     | inl same ↦ absurd (differ same.0)
-    | inr apart ↦ elim apart [ inl before ↦ inl (omega arith) | inr behind ↦ inr (omega arith) ]
+    | inr apart ↦ elim apart [ inl before ↦ inl (omega arith) | inr after ↦ inr (omega arith) ]
   ]

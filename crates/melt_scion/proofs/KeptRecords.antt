@@ -92,7 +92,7 @@ module _ (b c : Base) (home : ℕ) (z : Shape) (keeps : KeepsRecord b c home z) 
         subst (λ w. IsSecondWord w head.kind) (sym (keeps.words 1 (omega arith))) is.second_word;
   }
 
-  -- and so does a word behind it
+  -- and so does a word after it
   pub part_kept : (i : ℕ) → i < z.refs + z.nums → c.image (home + 2 + i) ≡ b.image (home + 2 + i)
   part_kept i below =
       let e : home + (2 + i) ≡ home + 2 + i = omega arith in

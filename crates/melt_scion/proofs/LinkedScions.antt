@@ -13,7 +13,7 @@ use Rattle.melt_links.proofs.Numbers.{without_here, without_other, without_absen
 use Rattle.melt_links.proofs.Rings.{got}
 use Rattle.melt_links.proofs.Standing.{unlinked_at, pushed_here, pushed_other}
 use Rattle.melt_scion.specs.Scions.{Scions, EachOnce, IsTable, IsLive, IsKept, Adds, Frees, SetsAddress, table_of}
-use Rattle.melt_scion.specs.Scions.{empty_table, first_of, behind}
+use Rattle.melt_scion.specs.Scions.{empty_table, first_of, next_after}
 use Rattle.melt_scion.proofs.Numbers.{contains_none, contains_here, contains_more, contains_cases, once_first, once_rest}
 use Rattle.melt_scion.proofs.Numbers.{same_test, other_test}
 use Rattle.melt_scion.proofs.ScionTables.{Pairs, with_pair, live_index, live_or_unused, adds, frees, moves}
@@ -53,21 +53,21 @@ pub first_number : (nodes : List ℕ) → first_of (map suc nodes) ≡ option_ma
 first_number [] = refl
 first_number (x ∷ xs) = refl
 
-pub number_behind : (nodes : List ℕ) (at node : ℕ) → EachOnce (map suc nodes) → slice_get nodes at ≡ Some node
-    → behind (map suc nodes) (suc node) ≡ option_map suc (slice_get nodes (suc at))
-number_behind [] at node once is = absurd (let below = slice_get_within [] at node is in omega arith)
-number_behind (x ∷ xs) zero node once is =
+pub number_after : (nodes : List ℕ) (at node : ℕ) → EachOnce (map suc nodes) → slice_get nodes at ≡ Some node
+    → next_after (map suc nodes) (suc node) ≡ option_map suc (slice_get nodes (suc at))
+number_after [] at node once is = absurd (let below = slice_get_within [] at node is in omega arith)
+number_after (x ∷ xs) zero node once is =
     let same : x ≡ node = cc in
     let test : nat_eq (suc x) (suc node) ≡ Bool.true =
     subst (λ (k : ℕ). nat_eq (suc x) (suc k) ≡ Bool.true) same (same_test (suc x)) in
-    ap (λ (b : Bool). if b then first_of (map suc xs) else behind (map suc xs) (suc node)) test ∙ first_number xs
-number_behind (x ∷ xs) (suc at) node once is =
+    ap (λ (b : Bool). if b then first_of (map suc xs) else next_after (map suc xs) (suc node)) test ∙ first_number xs
+number_after (x ∷ xs) (suc at) node once is =
     let there = has_number xs node (got xs at node is) in
     let differ : suc x ≢ suc node =
     λ e. once_first (suc x) (map suc xs) once (subst (Contains (map suc xs)) (sym e) there) in
-    ap (λ (b : Bool). if b then first_of (map suc xs) else behind (map suc xs) (suc node))
+    ap (λ (b : Bool). if b then first_of (map suc xs) else next_after (map suc xs) (suc node))
     (other_test (suc x) (suc node) differ)
-    ∙ number_behind xs at node (once_rest (suc x) (map suc xs) once) is
+    ∙ number_after xs at node (once_rest (suc x) (map suc xs) once) is
 
 -- two lists in which a node changes from the one to the other
 record Changes (old new : NodeLists) (from to node : ℕ) : Type 0 where
@@ -246,7 +246,7 @@ moved {pairs} {links} scion node {home} address scion_is kept is =
       still_kept pairs links links node (Some (home, address)) kept done.1 refl refl,
     )
 
--- the first scion of a walk, and the one behind a live one
+-- the first scion of a walk, and the one after a live one
 pub first_live : (nodes : List ℕ) (node : ℕ) → slice_get nodes 0 ≡ Some node
     → first_of (map suc nodes) ≡ Some (node + 1)
 first_live nodes node is =
@@ -323,28 +323,28 @@ read_pair {pairs} scion read kept live is =
     let place = placed scion kept live in
     get_or_default pairs (scion - 1) None read (omega (arith, place.from_1, place.in_range)) ∙ sym is
 
--- what is behind a live scion in a walk
-pub behind_live : {pairs : Pairs} {links : NodeLists} (scion : ℕ) (result : Option ℕ) → IsKept pairs links
+-- what is after a live scion in a walk
+pub after_live : {pairs : Pairs} {links : NodeLists} (scion : ℕ) (result : Option ℕ) → IsKept pairs links
     → IsLive (table_of pairs links) scion
     → ((list at : ℕ) → slice_get (list_at links list) at ≡ Some (scion - 1)
     → result ≡ slice_get (list_at links list) (suc at))
-    → behind (table_of pairs links).live scion ≡ option_map suc result
-behind_live {pairs} {links} scion result kept live tells =
+    → next_after (table_of pairs links).live scion ≡ option_map suc result
+after_live {pairs} {links} scion result kept live tells =
     let place = placed scion kept live in
     let nodes : List ℕ = list_at links 1 in
     let at : ℕ = place.stands.0 in
     let is : slice_get nodes at ≡ Some (scion - 1) =
     slice_get-get_or nodes at (scion - 1) place.stands.1 ∙ ap Some place.stands.2 in
-    ap (behind (map suc nodes)) place.next
-    ∙ (number_behind nodes at (scion - 1) kept.table.live_once is ∙ ap (option_map suc) (sym (tells 1 at is)))
+    ap (next_after (map suc nodes)) place.next
+    ∙ (number_after nodes at (scion - 1) kept.table.live_once is ∙ ap (option_map suc) (sym (tells 1 at is)))
 
--- the number behind is that of a node
-pub behind_below : {pairs : Pairs} {links : NodeLists} (scion node : ℕ) (result : Option ℕ) → IsKept pairs links
+-- the number after it is that of a node
+pub after_below : {pairs : Pairs} {links : NodeLists} (scion node : ℕ) (result : Option ℕ) → IsKept pairs links
     → IsLive (table_of pairs links) scion
     → ((list at : ℕ) → slice_get (list_at links list) at ≡ Some (scion - 1)
     → result ≡ slice_get (list_at links list) (suc at))
     → result ≡ Some node → node < length pairs
-behind_below {pairs} {links} scion node result kept live tells is =
+after_below {pairs} {links} scion node result kept live tells is =
     let place = placed scion kept live in
     let nodes : List ℕ = list_at links 1 in
     let at : ℕ = place.stands.0 in

@@ -62,9 +62,9 @@ module _ (maps new : Maps) (s t : State) (at n stored : ℕ) (z : Shape) (formed
     forwards = λ home a m is. same_forwards s t home a changes.base changes.forward;
   }
 
-  -- the words behind the header are 0
+  -- the words after the header are 0
   zero_word : (q y : ℕ) → 1 ≤ q → q < cost_of z → y ≡ at + q → t.word y ≡ 0
-  zero_word q y behind below is = changes.others y (omega arith) ∙ (ap s.word is ∙ holds.are q behind (omega arith))
+  zero_word q y after below is = changes.others y (omega arith) ∙ (ap s.word is ∙ holds.are q after (omega arith))
 
   new_words : NewWords new t at z
   new_words = record {

@@ -75,13 +75,13 @@ module _ (m : ToldCollection) where
     ]
   ]
 
-  -- a new home lies behind all free ones
+  -- a new home lies after all free ones
   new_not_free : (a k n : ℕ) → GetsHome s c.home a → c.home a ≡ k → c.maps.address a ≡ Some n →
       Contains s.base.free_homes k → ⊥
   new_not_free a k n gets is named free =
       let was = m.tells.free_homes k free in
       let within : k + cost_of was.reserved_for ≤ s.base.end = (within_before k was.reserved_for was.reserved).1 in
-      let behind : s.base.end ≤ c.home a = (new_is a n gets named).1.behind in
+      let after : s.base.end ≤ c.home a = (new_is a n gets named).1.after in
       omega arith
 
   was_free : (k : ℕ) → Contains t.base.free_homes k → Contains s.base.free_homes k

@@ -30,7 +30,7 @@ names_of-none (suc count) [] same = grind arith
 names_of-none (suc count) (n ∷ ns) same =
     ap (λ (rest : List (Option ℕ)). None ∷ rest) (names_of-none count ns (grind arith))
 
--- the name of the address behind an index
+-- the name of the address after an index
 name-named : (named : List Bool) (numbers : List ℕ) (k : ℕ) → length named ≡ length numbers
     → slice_index_or named k false ≡ true
     → slice_index_or (names_of named numbers) k None ≡ Some (slice_index numbers k)

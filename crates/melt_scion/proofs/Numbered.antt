@@ -12,8 +12,8 @@ use Rattle.melt_scion.specs.State.{State}
 use Rattle.melt_scion.specs.Placed.{Maps, IsNamed, FormedWords, Tells}
 use Rattle.melt_scion.specs.Collected.{CountsWords}
 
-behind : (x : ℕ) (xs : List ℕ) (a : ℕ) → Contains xs a → Contains (x ∷ xs) a
-behind x xs a (k, below, is) = (suc k, omega arith, is)
+after : (x : ℕ) (xs : List ℕ) (a : ℕ) → Contains xs a → Contains (x ∷ xs) a
+after x xs a (k, below, is) = (suc k, omega arith, is)
 
 first : (x : ℕ) (xs : List ℕ) → Contains (x ∷ xs) x
 first x xs = (0, omega arith, refl)
@@ -25,7 +25,7 @@ differ : (number : ℕ → ℕ) (x : ℕ) (xs : List ℕ) → AllByRecursion (λ
 differ number x [] apart one = tt
 differ number x (y ∷ xs) apart one = (
   ne_eqb (number x) (number y) (λ same. let equal = eq-eqb x y (one y (first y xs) same) in let not = apart.0 in cc),
-  differ number x xs apart.1 (λ z is. one z (behind y xs z is)),
+  differ number x xs apart.1 (λ z is. one z (after y xs z is)),
 )
 
 distinct : (number : ℕ → ℕ) (xs : List ℕ) → IsDistinct (λ a b. a == b) xs
@@ -34,22 +34,22 @@ distinct : (number : ℕ → ℕ) (xs : List ℕ) → IsDistinct (λ a b. a == b
 unfolding IsDistinct
 distinct number [] once one = tt
 distinct number (x ∷ xs) once one = (
-  differ number x xs once.0 (λ y is. one x y (first x xs) (behind x xs y is)),
-  distinct number xs once.1 (λ a b is other. one a b (behind x xs a is) (behind x xs b other)),
+  differ number x xs once.0 (λ y is. one x y (first x xs) (after x xs y is)),
+  distinct number xs once.1 (λ a b is other. one a b (after x xs a is) (after x xs b other)),
 )
 
 number_there : (number : ℕ → ℕ) (xs : List ℕ) (a n : ℕ) → Contains xs a → number a ≡ n → Contains (map number xs) n
 number_there number [] a n (k, below, is) same = absurd (omega arith)
 number_there number (x ∷ xs) a n (zero, below, is) same = (0, omega arith, ap number is ∙ same)
 number_there number (x ∷ xs) a n (suc k, below, is) same =
-    behind (number x) (map number xs) n (number_there number xs a n (k, omega arith, is) same)
+    after (number x) (map number xs) n (number_there number xs a n (k, omega arith, is) same)
 
 number_of : (number : ℕ → ℕ) (xs : List ℕ) (n : ℕ) → Contains (map number xs) n
     → (a : ℕ) × Contains xs a × (number a ≡ n)
 number_of number [] n (k, below, is) = absurd (omega arith)
 number_of number (x ∷ xs) n (zero, below, is) = (x, first x xs, is)
 number_of number (x ∷ xs) n (suc k, below, is) = let rest = number_of number xs n (k, omega arith, is) in
-    (rest.0, behind x xs rest.0 rest.1, rest.2)
+    (rest.0, after x xs rest.0 rest.1, rest.2)
 
 same_sums : (number cost words : ℕ → ℕ) (xs : List ℕ) → ((a : ℕ) → Contains xs a → cost a ≡ words (number a))
     → sum (map cost xs) ≡ sum (map words (map number xs))
@@ -58,7 +58,7 @@ same_sums number cost words (x ∷ xs) same =
     omega (
       arith,
       same x (first x xs),
-      same_sums number cost words xs (λ a is. same a (behind x xs a is)),
+      same_sums number cost words xs (λ a is. same a (after x xs a is)),
       sum_by-cons
           (λ (n : ℕ). n) (cost x) (map cost xs),
       sum_by-cons (λ (n : ℕ). n) (words (number x))

@@ -1,4 +1,4 @@
--- The parts of an object, each with its place behind the header.
+-- The parts of an object, each with its place after the header.
 use Rattle.std.proofs.Common.{◌≡◌, ◌≢◌, ℕ, ◌+◌, ◌<◌, ◌≤◌, ap, arith, inl, inr}
 use Rattle.std.specs.Prelude.{Some}
 use Rattle.melt_word.specs.Words.{cost_of}
@@ -92,5 +92,5 @@ module _ (maps : Maps) (s : State) where
       → r.at ≤ y → y < r.at + r.words → x ≢ y
   part_outside {r} {a} {n} {p} y {h} owns part from below =
       let apart = owns.outside a n h part.named part.starts in
-      outside_word a p y (cost_of h.shape) r.at r.words apart.before apart.behind apart.differ part.within part.is from
+      outside_word a p y (cost_of h.shape) r.at r.words apart.before apart.after apart.differ part.within part.is from
       below

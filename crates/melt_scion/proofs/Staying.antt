@@ -16,10 +16,10 @@ use Rattle.melt_scion.proofs.Parts.{PartAt, slot_part, number_part, part_outside
 use Rattle.melt_scion.proofs.Following.{SameValues}
 use Rattle.melt_scion.proofs.Homes.{BodyKeeps}
 use Rattle.melt_scion.proofs.Frame.{FormedWords_stay, Tells_stay}
-use Rattle.melt_scion.proofs.Changing.{keeps_words, keeps_free, keeps_ends, keeps_outside, behind_cleared}
+use Rattle.melt_scion.proofs.Changing.{keeps_words, keeps_free, keeps_ends, keeps_outside, after_cleared}
 use Rattle.melt_scion.proofs.Changing.{keeps_cleared}
 
--- objects are kept, and with them all words behind their home words, globals and forwarding words
+-- objects are kept, and with them all words after their home words, globals and forwarding words
 pub record SameParts (maps : Maps) (s t : State) : Type 0 where
   pub keeps : KeepsObjects maps maps s t
   pub part : (a n p x : ℕ) (h : Header) → PartAt maps s a n p x h → 2 ≤ p → t.word x ≡ s.word x
@@ -69,7 +69,7 @@ module _ (maps : Maps) (s t : State) (same : SameParts maps s t) where
 pub same_words : (maps : Maps) (s t : State) → SameWords s t → SameParts maps s t
 same_words maps s t same = record {
   keeps = keeps_words maps s t same;
-  part = λ a n p x h part behind. same.word x;
+  part = λ a n p x h part after. same.word x;
   global = same.global;
   forward = same.forward;
 }
@@ -78,7 +78,7 @@ same_words maps s t same = record {
 pub free_moves : (maps : Maps) (s t : State) (free : ℕ) → s.free ≤ free → FreeMoves s t free → SameParts maps s t
 free_moves maps s t free up moves = record {
   keeps = keeps_free maps s t free up moves;
-  part = λ a n p x h part behind. moves.word x;
+  part = λ a n p x h part after. moves.word x;
   global = moves.global;
   forward = moves.forward;
 }
@@ -88,7 +88,7 @@ pub free_shifts : (maps : Maps) (s t : State) → FreeMoves s t t.free →
     ((end : ℕ) → end ≤ s.free → end ≤ s.base.size + 1 → end ≤ t.free) → SameParts maps s t
 free_shifts maps s t moves ends = record {
   keeps = keeps_ends maps s t moves ends;
-  part = λ a n p x h part behind. moves.word x;
+  part = λ a n p x h part after. moves.word x;
   global = moves.global;
   forward = moves.forward;
 }
@@ -98,7 +98,7 @@ pub word_outside : (maps : Maps) (s t : State) (x word : ℕ) (r : Region) → F
     Owns maps s r → r.at ≤ x → x < r.at + r.words → SameParts maps s t
 word_outside maps s t x word r formed changes owns from below = record {
   keeps = keeps_outside maps s t x word formed changes r owns from below;
-  part = λ a n p y h part behind. changes.others y (part_outside maps s x owns part from below);
+  part = λ a n p y h part after. changes.others y (part_outside maps s x owns part from below);
   global = changes.global;
   forward = changes.forward;
 }
@@ -108,7 +108,7 @@ pub bit_cleared : (maps : Maps) (s t : State) (a n : ℕ) (h : Header) → Forme
     HeaderAt s a h → WordChanges s t a (header_word (record { shape = h.shape; stale = false })) → SameParts maps s t
 bit_cleared maps s t a n h formed named starts changes = record {
   keeps = keeps_cleared maps s t a n h formed named starts changes;
-  part = λ b m p y k part behind. behind_cleared maps s t a n h formed named starts changes b m p y k part
+  part = λ b m p y k part after. after_cleared maps s t a n h formed named starts changes b m p y k part
       (omega arith);
   global = changes.global;
   forward = changes.forward;

@@ -95,7 +95,7 @@ module _ (maps : Maps) (s t : State) (home words : ℕ) (writes : WritesHome s t
           writes.others (k + j)
           (elim (reserved_words s.base.homes s.base.end tells.homes_follow k home j y z is reserved other below) [
             | inl before ↦ inl before
-            | inr behind ↦ inr (omega arith)
+            | inr after ↦ inr (omega arith)
           ]);
     }
 

@@ -22,7 +22,7 @@ pub record HasHead (told : Bool) (b : Base) (home : ℕ) (z : Shape) : Type 0 wh
   pub within : home + cost_of z ≤ b.end
   pub on_disk : told ≡ true → HeadIs b home (record { shape = z; kind = Body })
 
--- And these words behind it: the slots are slot words.
+-- And these words after it: the slots are slot words.
 pub record HasBody (told : Bool) (b : Base) (home : ℕ) (z : Shape) (rest : List ℕ) : Type 0 where
   pub head : HasHead told b home z
   pub slots : AreSlots b.end z.refs rest

@@ -81,9 +81,9 @@ pub record Chooses (phase : Phase) (s : State) (to : ℕ → ℕ) : Type 0 where
   pub once : (a b : ℕ) → to a ≢ 0 → to a ≡ to b → a ≡ b
   pub nothing : to 0 ≡ 0
 
--- a new home lies behind all old ones, and was reserved for the shape of its object
+-- a new home lies after all old ones, and was reserved for the shape of its object
 pub record IsNewHome (s t : State) (home : ℕ → ℕ) (address : ℕ) (header : Header) : Type 0 where
-  pub behind : s.base.end ≤ home address
+  pub after : s.base.end ≤ home address
   pub within : home address + cost_of header.shape ≤ t.base.end
   pub reserved : IsReserved t.base.homes (home address) header.shape
 

@@ -16,7 +16,7 @@ no_region = record { at = 0; words = 0 }
 -- one ends before the other begins
 pub record Apart (a b : Region) : Type 0 where
   pub before : a.at < b.at → a.at + a.words ≤ b.at
-  pub behind : b.at < a.at → b.at + b.words ≤ a.at
+  pub after : b.at < a.at → b.at + b.words ≤ a.at
   pub differ : 0 < a.words → 0 < b.words → a.at ≢ b.at
 
 -- The words of the region belong to one thread alone: they lie in no object, and below the first free place.
@@ -27,7 +27,7 @@ pub record Owns (maps : Maps) (s : State) (r : Region) : Type 0 where
   pub outside : (b n : ℕ) (header : Header) → maps.address b ≡ Some n → HeaderAt s b header
       → Apart (record { at = b; words = cost_of header.shape }) r
 
--- The words behind its first, so many of them, are those that are to stand there.
+-- The words after its first, so many of them, are those that are to stand there.
 pub record HasStored (maps : Maps) (s : State) (r : Region) (holds : ℕ → ℕ) (stored : ℕ) : Type 0 where
   pub owns : Owns maps s r
   pub few : stored < r.words

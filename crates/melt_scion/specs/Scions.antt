@@ -79,10 +79,10 @@ abbrev pub first_of : List ℕ → Option ℕ
 first_of [] = None
 first_of (x ∷ xs) = Some x
 
--- the number behind x in the list
-abbrev pub behind : List ℕ → ℕ → Option ℕ
-behind [] x = None
-behind (y ∷ ys) x = if nat_eq y x then first_of ys else behind ys x
+-- the number after x in the list
+abbrev pub next_after : List ℕ → ℕ → Option ℕ
+next_after [] x = None
+next_after (y ∷ ys) x = if nat_eq y x then first_of ys else next_after ys x
 
 -- How this crate keeps a table. Nothing above it names what follows.
 

@@ -74,7 +74,7 @@ pub record NoGaps (s : State) : Type 0 where
       → Sends (s.forward (probe home s.base.forwards k)) home address → i < k
       → s.forward (probe home s.base.forwards i) ≢ 0
 
--- the homes stand one behind the other, from this word on to the end
+-- the homes stand one after the other, from this word on to the end
 abbrev pub Follow : ℕ → List Home → ℕ → Type 0
 Follow from [] end = from ≡ end
 Follow from (home ∷ homes) end = (home.at ≡ from) × Follow (from + cost_of home.shape) homes end

@@ -27,7 +27,7 @@ impl Model for AddressNames {
     ghost invariant = { λ names. length names.named.items ≡ length names.numbers.items };
 }
 
-/// Whether an object starts at the address behind an index.
+/// Whether an object starts at the address after an index.
 fn is_named(named: &[bool], index: usize) -> bool
     ensures { result ≡ slice_index_or named.now index false }
 {

@@ -4,7 +4,7 @@
 //! freed in a few steps, and a walk meets live scions alone: the one that was given last comes first.
 ghost use Rattle.std.specs.Prelude.{◌≡◌, ◌<◌, length, IfOk};
 ghost use Rattle.melt_scion.specs.Scions.{IsLive, IsTable, Adds, Frees, SetsAddress, empty_table, scion_at, first_of};
-ghost use Rattle.melt_scion.specs.Scions.{behind};
+ghost use Rattle.melt_scion.specs.Scions.{next_after};
 
 use melt_links::Links;
 use melt_model::NoMemory;
@@ -107,10 +107,10 @@ impl ScionTable {
         Some(node + 1)
     }
 
-    /// The scion behind a live one in such a walk, if there is one.
+    /// The scion after a live one in such a walk, if there is one.
     pub fn next(&self, scion: u32) -> Option<u32>
         requires { IsLive self.now scion }
-        ensures next { result ≡ behind self.now.live scion }
+        ensures next { result ≡ next_after self.now.live scion }
         ensures table { IsTable self.now }
     {
         let node = self.links.next(scion - 1)?;

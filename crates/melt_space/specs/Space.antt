@@ -37,7 +37,7 @@ pub record IsFresh (words : ℕ) (space : SpaceWords) : Type 0 where
   pub used : space.used ≡ 0
   pub zeros : (k : ℕ) → word_at space k ≡ 0
 
--- the space holds one object more, behind those that it held
+-- the space holds one object more, after those that it held
 pub record Makes (old new : SpaceWords) (shape : Shape) (address : ℕ) : Type 0 where
   pub place : address ≡ old.used + 1
   pub fits : old.used + cost_of shape ≤ length old.list
@@ -46,7 +46,7 @@ pub record Makes (old new : SpaceWords) (shape : Shape) (address : ℕ) : Type 0
   pub header : word_at new address ≡ header_word (record { shape = shape; stale = false })
   pub zeros : (k : ℕ) → address < k → k < address + cost_of shape → word_at new k ≡ 0
   pub before : (k : ℕ) → k < address → word_at new k ≡ word_at old k
-  pub behind : (k : ℕ) → address + cost_of shape ≤ k → word_at new k ≡ word_at old k
+  pub after : (k : ℕ) → address + cost_of shape ≤ k → word_at new k ≡ word_at old k
 
 -- the words that are free are fewer than the object needs
 pub record Lacks (space : SpaceWords) (shape : Shape) (error : NoRoom) : Type 0 where
@@ -64,7 +64,7 @@ pub record SetsWord (old new : SpaceWords) (at word : ℕ) : Type 0 where
 -- the first words are these, as many as there are, and they are the words in use; the others stay
 pub record Replaces (old new : SpaceWords) (words : List ℕ) : Type 0 where
   pub front : (k : ℕ) → k < length words → word_at new (suc k) ≡ slice_index words k
-  pub behind : (k : ℕ) → length words < k → word_at new k ≡ word_at old k
+  pub after : (k : ℕ) → length words < k → word_at new k ≡ word_at old k
   pub size : length new.list ≡ length old.list
   pub used : new.used ≡ length words
 

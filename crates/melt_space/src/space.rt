@@ -1,4 +1,4 @@
-//! A space of 64-bit words, in which objects are made one behind the other.
+//! A space of 64-bit words, in which objects are made one after the other.
 ghost use Rattle.std.specs.Prelude.{◌≡◌, ◌+◌, ◌-◌, ◌^◌, ◌<◌, ◌≤◌, ◌++◌, [], drop, length, if◌then◌else◌, take, IfErr, IfOk};
 ghost use Rattle.std.specs.Prelude.{IsErr, OnErr};
 ghost use Rattle.std.specs.Vec.{vec_capacity};
@@ -50,7 +50,7 @@ fn put_front(list: &mut [u64], words: &[u64])
     list[..words.len()].copy_from_slice(words);
 }
 
-/// Cuts these words behind the first ones, so many of them, and puts those of the list behind them that stand there,
+/// Cuts these words after the first ones, so many of them, and puts those of the list after them that stand there,
 /// where these are fewer and there is room for them. Answers whether it did.
 fn complete(words: &mut Vec<u64>, count: usize, list: &[u64]) -> bool
     requires given { count ≤ length words.old.items }
@@ -58,8 +58,8 @@ fn complete(words: &mut Vec<u64>, count: usize, list: &[u64]) -> bool
     ensures { words.new.items ≡ (if result then take count words.old.items
         ++ drop count list.now else words.old.items) }
 {
-    let behind = list.len() - count;
-    if behind >= count || words.capacity() < list.len() {
+    let after = list.len() - count;
+    if after >= count || words.capacity() < list.len() {
         return false;
     }
     words.truncate(count);

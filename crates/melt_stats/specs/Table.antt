@@ -14,7 +14,7 @@ phase_name Inactive = codes "inactive"
 phase_name Mark = codes "mark"
 phase_name Move = codes "move"
 
--- a comma, and a number in decimal behind it
+-- a comma, and a number in decimal after it
 abbrev pub next_number : ℕ → List ℕ
 next_number n = codes "," ++ decimal n
 

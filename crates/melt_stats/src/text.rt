@@ -1,4 +1,4 @@
-//! The table as comma-separated text: a line for each collection, behind one that names the columns.
+//! The table as comma-separated text: a line for each collection, after one that names the columns.
 ghost use Rattle.std.specs.Prelude.{◌≡◌, ◌++◌, IfOk, OnOk, map};
 ghost use Rattle.csv.specs.Writing.{default_writer, row_text};
 ghost use Rattle.melt_stats.specs.Rows.{IsAtLine, written};

@@ -1,4 +1,4 @@
--- A call whose events are made each right behind the one before.
+-- A call whose events are made each right after the one before.
 use Rattle.std.proofs.Common.{◌≡◌, ◌≢◌, ℕ, zero, suc, ◌<◌, ◌≤◌, Bool, true, length, refl, ◌∙◌, ap, subst, arith, inl, inr}
 use Rattle.std.specs.Prelude.{Some}
 use Rattle.melt_model.specs.declared.operations.Op.{Op}
@@ -7,7 +7,7 @@ use Rattle.melt_model.specs.declared.operations.Reply.{Reply}
 use Rattle.melt_scion.specs.Heaps.{OnDisk}
 use Rattle.melt_core.specs.declared.answer.StepResult.{StepResult}
 use Rattle.melt_core.specs.declared.answer.StepResult.TheVariants.{Answered, Going}
-use Rattle.melt_core.specs.Advances.{AdvancesOver, Goes, IsAnswered, KeepsOthers, KeepsOwn, MovesBy}
+use Rattle.melt_core.specs.Advances.{AdvancesOver, CallGoesOn, IsAnswered, KeepsOthers, KeepsOwn, MakesEventsBy}
 use Rattle.melt_core.specs.Made.{KeepsMade}
 use Rattle.melt_core.specs.Stages.{events_left}
 use Rattle.melt_core.specs.Views.{Standing, View, stage_of}
@@ -64,7 +64,7 @@ made_on {disk} {u} gone event is past had =
 gone_on : {told : Bool} {disk : OnDisk} {v u w : View} {t : ℕ} {o : Op} → length v.forward ≤ most_forwards
     → HasGone told disk v u t → AdvancesOver disk u w t o Going → HasGone told disk v w t
 gone_on {told} {disk} {v} {u} {w} {t} {o} few gone event =
-    let goes : Goes disk u w t o = event.outcome in
+    let goes : CallGoesOn disk u w t o = event.outcome in
     let nearer : events_left most_forwards (stage_of w t) < events_left most_forwards (stage_of u t) =
     goes_nearer disk u w t o goes (few_still told disk v u t gone few) in
     let left : events_left most_forwards (stage_of u t) ≤ events_left most_forwards (stage_of v t) = gone.left in
@@ -81,14 +81,14 @@ gone_on {told} {disk} {v} {u} {w} {t} {o} few gone event =
       left = omega (arith, nearer, left);
     }
 
--- the last event of those that were made, behind those by which the call went on
+-- the last event of those that were made, after those by which the call went on
 pub record LastEvent (told : Bool) (disk : OnDisk) (v w : View) (t : ℕ) (o : Op) (result : StepResult) : Type 0 where
   pub before : View
   pub gone : HasGone told disk v before t
   pub event : AdvancesOver disk before w t o result
 
 pub last_event : {told : Bool} {disk : OnDisk} (more : ℕ) {v u : View} (w : View) {t : ℕ} (o : Op) (result : StepResult)
-    → length v.forward ≤ most_forwards → HasGone told disk v u t → MovesBy more u w t o result
+    → length v.forward ≤ most_forwards → HasGone told disk v u t → MakesEventsBy more u w t o result
     → LastEvent told disk v w t o result
 last_event {told} {disk} zero {u} w o result few gone moves =
     record { before = u; gone = gone; event = moves.over disk (stands_untold told disk u gone.stands) }
@@ -107,7 +107,7 @@ pub at_once_goes : {told : Bool} {disk : OnDisk} {v w : View} {t : ℕ} {o : Op}
     → ThreadStep told disk v w t s s
 at_once_goes {told} {disk} {v} {w} {t} {o} s running next no_collect few last =
     let u : View = last.before in
-    let goes : Goes disk u w t o = last.event.outcome in
+    let goes : CallGoesOn disk u w t o = last.event.outcome in
     let nearer : events_left most_forwards (stage_of w t) < events_left most_forwards (stage_of u t) =
     goes_nearer disk u w t o goes (few_still told disk v u t last.gone few) in
     let left : events_left most_forwards (stage_of u t) ≤ events_left most_forwards (stage_of v t) =
@@ -136,10 +136,10 @@ pub at_once_told : {told : Bool} {disk : OnDisk} {v w : View} (x : View) {t : �
 at_once_told {told} {disk} {v} {w} x {t} {o} {reply} {after} running next no_collect last takes drops =
     let u : View = last.before in
     let answered : IsAnswered disk u w t o reply = last.event.outcome in
-    let behind = dropped_stands told disk w x t after.mode (last.event.keeps told (λ is. tt) last.gone.stands) drops in
+    let later = dropped_stands told disk w x t after.mode (last.event.keeps told (λ is. tt) last.gone.stands) drops in
     record {
-      stands = behind.0;
-      others = KeepsOthers_both v w x t (KeepsOthers_both v u w t last.gone.others last.event.others) behind.1;
+      stands = later.0;
+      others = KeepsOthers_both v w x t (KeepsOthers_both v u w t last.gone.others last.event.others) later.1;
       what =
           inr (inr (inr (inr (told_state v x next no_collect last.gone.own.history last.gone.own.values last.gone.stands
           answered (ap owes_silent running) takes drops))));

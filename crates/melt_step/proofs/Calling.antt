@@ -14,7 +14,7 @@ use Rattle.melt_record.specs.declared.damage.Damaged.{Damaged}
 use Rattle.melt_scion.specs.Heaps.{OnDisk, register_in}
 use Rattle.melt_core.specs.Answering.{Answers, with_entry}
 use Rattle.melt_core.specs.Views.{View, values_of, maps, state, rest_of, call_of, stage_in, stage_of, Standing}
-use Rattle.melt_core.specs.Advances.{AdvancesWhere, KeepsOthers, IsAnswered, Goes, Pauses}
+use Rattle.melt_core.specs.Advances.{AdvancesWhere, KeepsOthers, IsAnswered, CallGoesOn, Pauses}
 use Rattle.melt_core.specs.Advances.{Continues, Refuses, IsLost, IsDamage, TellsDisk}
 use Rattle.melt_core.specs.Stages.{events_left, Fits, LoadsAt, ReadsAt}
 use Rattle.melt_core.specs.Known.{Known, Misses}
@@ -146,7 +146,7 @@ told_state v {w} x {t} {o} {reply} {after} next no_collect log values stood answ
       }
     ]
 
--- all is well behind a call that is over, and the others saw nothing of it
+-- all is well after a call that is over, and the others saw nothing of it
 pub dropped_stands : (told : Bool) (disk : OnDisk) (w x : View) (t : ℕ) (mode : Mode) → Standing told disk w
     → DropsIfEnded w x t mode → Standing told disk x × KeepsOthers w x t
 dropped_stands told disk w x t mode stands drops =
@@ -175,7 +175,7 @@ calls_dropped w x t mode drops = elim (drop_cases w x t mode drops) [
   | inr goes ↦ ap (λ (y : View). y.calls) goes.1
 ]
 
--- what an event is that leaves the stop word, of a thread that waits for nothing behind it
+-- what an event is that leaves the stop word, of a thread that waits for nothing after it
 pub stop_same : (v w : View) (after : ThreadState) → w.stop ≡ v.stop → (Waits after.mode → ⊥)
     → (after.mode ≡ Asked → ⊥) → SetsStop v w after
 stop_same v w after same rests runs = record {
@@ -191,19 +191,20 @@ goes_sets v w s running same =
     stop_same v w s same (λ waits. subst Waits running waits)
     (λ asked. let none : Running ≡ Asked = sym running ∙ asked in cc)
 
--- a call that goes on has fewer events behind it
-pub goes_nearer : (disk : OnDisk) (v w : View) (t : ℕ) (o : Op) → Goes disk v w t o → length v.forward ≤ most_forwards
+-- a call that goes on has fewer events after it
+pub goes_nearer : (disk : OnDisk) (v w : View) (t : ℕ) (o : Op) → CallGoesOn disk v w t o
+    → length v.forward ≤ most_forwards
     → events_left most_forwards (stage_in (call_of w t)) < events_left most_forwards (stage_in (call_of v t))
 goes_nearer disk v w t o goes few =
     subst (λ (now : Option Call). events_left most_forwards (stage_in now)
     < events_left most_forwards (stage_in (call_of v t))) (sym goes.call) (goes.nearer most_forwards few)
 
--- an event behind which the call goes on
+-- an event after which the call goes on
 pub goes_step : {told : Bool} {tells : Type 0} {disk : OnDisk} {v w : View} {t : ℕ} {o : Op} (s : ThreadState)
     → s.mode ≡ Running → s.op ≡ Some o → o ≢ Collect → Standing told disk v → (told ≡ true → tells)
     → length v.forward ≤ most_forwards → AdvancesWhere tells disk v w t o Going → ThreadStep told disk v w t s s
 goes_step {told} {disk} {v} {w} {t} {o} s running next no_collect stands tell few advances =
-    let goes : Goes disk v w t o = advances.outcome in
+    let goes : CallGoesOn disk v w t o = advances.outcome in
     let call : Call = record { op = o; stage = goes.stage } in
     record {
       stands = advances.keeps told tell stands;
@@ -221,7 +222,7 @@ goes_step {told} {disk} {v} {w} {t} {o} s running next no_collect stands tell fe
       }));
     }
 
--- the thread waits behind a call that paused
+-- the thread waits after a call that paused
 pause_sets : (v w : View) (t : ℕ) (o : Op) (s : ThreadState) (cause : Pause) → Pauses v w t o cause
     → SetsStop v w (record s { mode = mode_for (refusal.Pause cause) })
 pause_sets v w t o s pause.Asked is = record {
@@ -354,10 +355,10 @@ pub told_step : {told : Bool} {disk : OnDisk} {v w : View} (x : View) {t : ℕ} 
     → Standing told disk w → KeepsOthers v w t → IsAnswered disk v w t o reply → TakesReply s after reply
     → DropsIfEnded w x t after.mode → ThreadStep told disk v x t s after
 told_step {told} {disk} {v} {w} x {t} {after} running next no_collect stood stands others answered takes drops =
-    let behind = dropped_stands told disk w x t after.mode stands drops in
+    let later = dropped_stands told disk w x t after.mode stands drops in
     record {
-      stands = behind.0;
-      others = KeepsOthers_both v w x t others behind.1;
+      stands = later.0;
+      others = KeepsOthers_both v w x t others later.1;
       what =
           inr (inr (inr (inr (told_state v x next no_collect refl refl stood answered (ap owes_silent running) takes
           drops))));
@@ -376,10 +377,10 @@ pub refused_step : {told : Bool} {image : Option (List ℕ)} {disk : OnDisk} {v 
     → Begins told image disk v t o why → AdvancesWhere (TellsDisk image disk) disk v w t o (Refused why)
     → DropsIfEnded w x t (mode_for why) → ThreadStep told disk v x t s (record s { mode = mode_for why })
 refused_step {told} {image} {disk} {v} {w} x {t} {o} s {why} running next no_collect begins advances drops =
-    let behind = dropped_stands told disk w x t (mode_for why) (advances.keeps told begins.tells begins.stands) drops in
+    let later = dropped_stands told disk w x t (mode_for why) (advances.keeps told begins.tells begins.stands) drops in
     record {
-      stands = behind.0;
-      others = KeepsOthers_both v w x t advances.others behind.1;
+      stands = later.0;
+      others = KeepsOthers_both v w x t advances.others later.1;
       what = by_cause why begins advances.outcome drops;
     }
   where

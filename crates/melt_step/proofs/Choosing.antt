@@ -25,7 +25,7 @@ use Rattle.melt_scion.specs.declared.registers.Registers.{Registers}
 use Rattle.melt_core.specs.Answering.{with_entry}
 use Rattle.melt_core.specs.Views.{View, view, values_of, registers_in, held_values, names_in, IsQuiet, Standing}
 use Rattle.melt_core.specs.Epochs.{no_registers, IsNewRest, AtRest, core_of, HasFinished, HasDropped, NamesWithin}
-use Rattle.melt_core.specs.Advances.{AdvancesOver, KeepsOthers, IsAnswered, Goes, Refuses, TellsDisk}
+use Rattle.melt_core.specs.Advances.{AdvancesOver, KeepsOthers, IsAnswered, CallGoesOn, Refuses, TellsDisk}
 use Rattle.melt_core.proofs.NoHomes.{as_told_by}
 use Rattle.melt_core.specs.declared.machine.Rest.{Rest}
 use Rattle.melt_core.specs.declared.answer.Pause.TheVariants as pause
@@ -46,7 +46,7 @@ use Rattle.melt_safepoint.proofs.Telling.{told_with, with_own, Stands_answers}
 -- a thread stands in the history, and until it drops its registers these hold what it was told
 record StandsSoFar (v : View) (t : ℕ) (s : SoFar) : Type 0 where
   pub registers : List Value
-  pub told : Stands v.log t s.ops s.replies registers
+  pub stands : Stands v.log t s.ops s.replies registers
   pub in_registers : t < length v.held → s.over ≡ false → registers ≡ values_of v t
 
 -- all threads do, over this disk
@@ -62,7 +62,7 @@ stands_as : (v w : View) (t : ℕ) (s : SoFar) → w.log ≡ v.log → length w.
     → values_of w t ≡ values_of v t → StandsSoFar v t s → StandsSoFar w t s
 stands_as v w t s log threads values st = record {
   registers = st.registers;
-  told = subst (λ (h : List Entry). Stands h t s.ops s.replies st.registers) (sym log) st.told;
+  stands = subst (λ (h : List Entry). Stands h t s.ops s.replies st.registers) (sym log) st.stands;
   in_registers = λ within open_. st.in_registers (subst (λ (n : ℕ). t < n) threads within) open_ ∙ sym values;
 }
 
@@ -132,18 +132,18 @@ answered_stands {threads} {globals} {v} {w} {all} {after} {t} {o} {reply} a open
     let answers = answered.answers a.stands in
     let legal : Legal w.log (length v.globals) = subst (Legal w.log) others.globals (stands.legal refl) in
     let now : Stands v.log t (all t).ops (all t).replies (values_of v t) =
-    subst (Stands v.log t (all t).ops (all t).replies) (st.in_registers within open_) st.told in
+    subst (Stands v.log t (all t).ops (all t).replies) (st.in_registers within open_) st.stands in
     let told : Stands w.log t ((all t).ops ++ o ∷ []) ((all t).replies ++ reply ∷ []) (values_of w t) =
     Stands_answers (length v.globals) (a.stands.legal refl) legal now answers in
     let act : Option Act = (does v.log (values_of v t) o answers.value).act in
     let grown : w.log ≡ with_entry t v.log act = answers.history in
     let here : StandsSoFar w t (with_reply (all t) o reply) =
-    record { registers = values_of w t; told = told; in_registers = λ there stays. refl } in
+    record { registers = values_of w t; stands = told; in_registers = λ there stays. refl } in
     let elsewhere : (u : ℕ) → u ≢ t → StandsSoFar w u (all u) = λ u differ. let su : StandsSoFar v u (all u) =
     a.each u in record {
       registers = su.registers;
-      told = subst (λ (h : List Entry). Stands h u (all u).ops (all u).replies su.registers) (sym grown)
-          (told_with t act differ su.told);
+      stands = subst (λ (h : List Entry). Stands h u (all u).ops (all u).replies su.registers) (sym grown)
+          (told_with t act differ su.stands);
       in_registers = λ there stays. su.in_registers (subst (λ (n : ℕ). u < n) others.threads there) stays
           ∙ sym (others.values u differ);
     } in
@@ -165,7 +165,7 @@ event_stands : {threads globals : ℕ} {disk : OnDisk} {v w : View} {all : ℕ �
     (result : StepResult) → AllStand threads globals disk v all → (all t).over ≡ false → t < length v.held
     → AdvancesOver disk v w t o result → SetsBy all after t o result → AllStand threads globals disk w after
 event_stands {disk} {v} {w} after {t} {o} Going a open_ within advances sets =
-    let goes : Goes disk v w t o = advances.outcome in
+    let goes : CallGoesOn disk v w t o = advances.outcome in
     event_stays after a (advances.keeps true (λ told. tt) a.stands) advances.others goes.own.history goes.own.values
     sets
 event_stands {disk} {v} {w} after {t} {o} (Answered reply) a open_ within advances sets =
@@ -181,7 +181,8 @@ collect_stands {v} {all} {after} {t} a sets =
     let st : StandsSoFar v t (all t) = a.each t in
     let here : StandsSoFar v t (with_reply (all t) Collect Done) = record {
       registers = st.registers;
-      told = Stands_local v.log t (all t).ops (all t).replies st.registers Collect st.told refl st.told.references;
+      stands = Stands_local v.log t (all t).ops (all t).replies st.registers Collect st.stands refl
+          st.stands.references;
       in_registers = st.in_registers;
     } in
     record {
@@ -205,7 +206,7 @@ dropped_stands {threads} {globals} {disk} {v} {w} {all} {after} {t} a dropped ot
     let st : StandsSoFar v t (all t) = a.each t in
     let here : StandsSoFar w t (record (all t) { over = true }) = record {
       registers = st.registers;
-      told = subst (λ (h : List Entry). Stands h t (all t).ops (all t).replies st.registers) (sym log) st.told;
+      stands = subst (λ (h : List Entry). Stands h t (all t).ops (all t).replies st.registers) (sym log) st.stands;
       in_registers = λ within open_. absurd (cc);
     } in
     record {
@@ -232,7 +233,7 @@ start_stands {threads} {globals} {words} {heap} {rest} all at_rest new_heap new_
     let history : v.log ≡ [] = history_new (is_some heap.names) rest new_rest in
     let each : (t : ℕ) → StandsSoFar v t nothing_yet = λ t. record {
       registers = replicate 16 Nil;
-      told = subst (λ (h : List Entry). Stands h t [] [] (replicate 16 Nil)) (sym history) (Stands_start t);
+      stands = subst (λ (h : List Entry). Stands h t [] [] (replicate 16 Nil)) (sym history) (Stands_start t);
       in_registers = λ within open_.
           sym (ap (held_values v.names)
           (ap (λ (held : List Registers). registers_in held t) new_rest.held
@@ -290,7 +291,7 @@ collection_stands {threads} {globals} {end} {end_after} {image} {image_after} {h
     let names : NamesHeap new (Some (names_in new)) = names_left heap new leaves in
     let moved : Carried true c.phase s.disk heap new b (Some (names_in new)) registers end_after image_after c.journal =
     carried true c.phase s.disk heap new b registers end_after image_after c.journal rests over (Some (names_in new))
-    names (record { threads = c.only.threads; before = c.only.before; after = c.only.behind }) in
+    names (record { threads = c.only.threads; before = c.only.before; after = c.only.afterwards }) in
     let shows : rest_view new (with_names_held b (Some (names_in new)) registers) ≡ view (core_of new after) =
     only_view heap new rest after (kept_still heap.names new.names leaves.keeps_names) c.only in
     let same : (view (core_of new after)).log ≡ (view (core_of heap rest)).log =
@@ -355,6 +356,6 @@ chosen_told threads globals end image v all chosen =
       stands = a.stands;
       legal = subst (Legal v.log) a.words (a.stands.legal refl);
       transcripts = λ t more. let st : StandsSoFar v t (all t) =
-          a.each t in Transcript_so_far v.log t (all t).ops more (all t).replies st.registers st.told;
+          a.each t in Transcript_so_far v.log t (all t).ops more (all t).replies st.registers st.stands;
       own_threads = a.own;
     }

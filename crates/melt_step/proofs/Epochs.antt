@@ -30,7 +30,7 @@ use Rattle.melt_safepoint.specs.Passing.{NoneOwn, WaitsForRoom}
 use Rattle.melt_safepoint.specs.Rows.{AwaitsCall, CollectorStands, JustCollected, LeftBy, Row, StandsBut}
 use Rattle.melt_safepoint.specs.Shown.{Shown}
 use Rattle.melt_safepoint.specs.Tables.{Renewed, TableStands}
-use Rattle.melt_safepoint.specs.Threads.{OweBehindCollects}
+use Rattle.melt_safepoint.specs.Threads.{OweAfterCollects}
 use Rattle.melt_safepoint.specs.declared.collector.Collector.{Collector}
 use Rattle.melt_safepoint.specs.declared.thread.ThreadState.{ThreadState}
 use Rattle.melt_safepoint.proofs.Cuts.{held_words_same}
@@ -200,7 +200,7 @@ renews_awaits {told} {script} {config} {shown} {forced} {old} {new} {t} r awaits
     record {
       stands = renews_stands r stands;
       few = awaits.few;
-      owed = subst (OweBehindCollects script) (sym r.states) awaits.owed;
+      owed = subst (OweAfterCollects script) (sym r.states) awaits.owed;
       collected = renews_collected r stands awaits.collected;
       own = subst NoneOwn (sym r.states) awaits.own;
       waits = subst (λ (xs : List ThreadState). WaitsForRoom xs t) (sym r.states) awaits.waits;
@@ -235,7 +235,7 @@ first_less old mid new None same less = tt
 first_less old mid new (Some t) same less =
     subst (λ (xs : List ThreadState). to_do new.states < to_do xs) same less
 
--- so it has ended as it did behind its beginning
+-- so it has ended as it did after its beginning
 pub renews_ends : (shown : Shown) (old mid new : Row) (first lacks : Option ℕ) → Renews old mid
     → EndsEpoch shown first mid new lacks → EndsEpoch shown first old new lacks
 renews_ends shown old mid new first None r ends = record {

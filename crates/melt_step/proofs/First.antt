@@ -1,4 +1,4 @@
--- The call that a thread that lacked room makes alone, behind a collection.
+-- The call that a thread that lacked room makes alone, after a collection.
 use Rattle.std.proofs.Common.{◌≡◌, ◌≢◌, ℕ, ◌+◌, ◌*◌, ◌<◌, ◌≤◌, zero, suc, true, false, List, ◌∷◌, length}
 use Rattle.std.proofs.Common.{refl, sym, ◌∙◌, ap, subst, arith, inl, inr}
 use Rattle.std.proofs.Math.ListN.{set}
@@ -27,7 +27,7 @@ use Rattle.melt_safepoint.specs.Journals.{IsTight, before}
 use Rattle.melt_safepoint.specs.Passing.{IsLacking, CalledAt, WaitsForRoom}
 use Rattle.melt_safepoint.specs.Needs.{NeedsWords}
 use Rattle.melt_safepoint.specs.Shown.{Shown, Underlies}
-use Rattle.melt_safepoint.specs.Threads.{DueBy, OweBehindCollects, jobs_of, left, with_first}
+use Rattle.melt_safepoint.specs.Threads.{DueBy, OweAfterCollects, jobs_of, left, with_first}
 use Rattle.melt_safepoint.specs.Modes.{FitsMode, IsEnded, jobs, mode_for}
 use Rattle.melt_safepoint.specs.Endings.{HaveMoments}
 use Rattle.melt_safepoint.proofs.Counting.{Adds, counts_paid}
@@ -38,7 +38,7 @@ use Rattle.melt_safepoint.proofs.Threads.{set_got}
 use Rattle.melt_safepoint.proofs.Lacking.{lacking_open, Frees, frees_ended, told_goes, called_at}
 use Rattle.melt_safepoint.specs.Collections.{AllMarked, MadeSoFar}
 use Rattle.melt_step.specs.Lone.{IsAloneReady, CalledAlone, CalledOver, LacksAlone}
-use Rattle.melt_step.specs.Going.{CallsFirst, Goes, MadeCall, MakesCall}
+use Rattle.melt_step.specs.Going.{CallsFirst, StandsInside, MadeCall, MakesCall}
 use Rattle.melt_safepoint.specs.Epochs.{LacksFirst}
 use Rattle.melt_safepoint.specs.Passing.{NoneOwn}
 use Rattle.melt_safepoint.specs.Rows.{AwaitsCall, CollectorStands, JustCollected, LacksBy, LacksWords, LeftBy, OnlyHeld}
@@ -178,10 +178,10 @@ call_step {told} {script} {config} {shown} {forced} {old} {new} {t} {lacks} awai
     let over = call_over awaits m in
     record { stands = over.stands; others = over.others; what = inr (inr (inr (came none over).1)) }
 
--- so the run stands behind it
+-- so the run stands after it
 pub made_stands : {told : Bool} {script : Script} {config : Config} {shown : Shown} {forced : ℕ} {old new : Row} {t : ℕ}
     {lacks : Option ℕ} → AwaitsCall told script config shown forced old t → MakesCall shown old new t lacks
-    → lacks ≡ None → Goes told script config shown new
+    → lacks ≡ None → StandsInside told script config shown new
 made_stands {told} {script} {config} {shown} {forced} {old} {new} {t} {lacks} awaits m none =
     let v : View = old.view in
     let w : View = new.view in
@@ -221,9 +221,9 @@ made_stands {told} {script} {config} {shown} {forced} {old} {new} {t} {lacks} aw
           (omega (arith, awaits.few)) stands.counts adds);
     }
 
--- no call is in flight behind an event that leaves none of its thread
-quiet_behind : (v w : View) (t : ℕ) → KeepsOthers v w t → call_of w t ≡ None → IsQuiet v → IsQuiet w
-quiet_behind v w t others here quiet u = elim (cases_eq u t) [
+-- no call is in flight after an event that leaves none of its thread
+quiet_after : (v w : View) (t : ℕ) → KeepsOthers v w t → call_of w t ≡ None → IsQuiet v → IsQuiet w
+quiet_after v w t others here quiet u = elim (cases_eq u t) [
   | inl same ↦ ap (call_of w) same ∙ here
   | inr differ ↦ others.calls u differ ∙ quiet u
 ]
@@ -239,7 +239,7 @@ pub made_quiet : {told : Bool} {script : Script} {config : Config} {shown : Show
     → lacks ≡ None → IsQuiet new.view
 made_quiet {told} {script} {config} {shown} {forced} {old} {new} {t} {lacks} awaits m none =
     let over = call_over awaits m in
-    quiet_behind old.view new.view t over.others (ended_call (came none over).1) awaits.stands.quiet
+    quiet_after old.view new.view t over.others (ended_call (came none over).1) awaits.stands.quiet
 
 -- and the stop word is not set
 pub made_stop : {told : Bool} {script : Script} {config : Config} {shown : Shown} {forced : ℕ} {old new : Row} {t : ℕ}
@@ -268,7 +268,7 @@ told_jobs told v w t s after lacking got =
       ]
     ])
 
--- so it is behind a call that was answered, or ended its thread
+-- so it is after a call that was answered, or ended its thread
 frees_call : {told : Bool} {finish : ℕ} {v w : View} {t : ℕ} {s after : ThreadState} → s.mode ≡ Lacking
     → ThreadLost told finish v w t s after ⊎ ThreadTold told v w t s after → Frees s after
 frees_call {told} {finish} {v} {w} {t} {s} {after} lacking what = elim what [
@@ -334,17 +334,17 @@ values_stay v w t others here u r =
     ] in
     ap (λ (xs : List Value). value_in xs r) all
 
--- behind a collection that left a claim of a call no room, an object of the largest size may have none
-tight_behind : (config : Config) (run : Row) (words need : ℕ) → JustCollected run → words ≡ config.heap
+-- after a collection that left a claim of a call no room, an object of the largest size may have none
+tight_after : (config : Config) (run : Row) (words need : ℕ) → JustCollected run → words ≡ config.heap
     → words + 1 < run.view.free + need → need ≤ 126 → IsTight config (last_of run.collector)
-tight_behind config run words need collected is above small =
+tight_after config run words need collected is above small =
     let last : last_of run.collector ≡ Some collected.last =
     ap (λ (js : List Journal). before js (length js)) collected.journal
     ∙ before_end collected.prefix collected.last in
     let tight : config.heap < collected.last.live + 126 = omega (arith, above, small, is, collected.free) in
     subst (IsTight config) (sym last) tight
 
--- what the Moves that were forced tell of a call that lacked words behind them
+-- what the Moves that were forced tell of a call that lacked words after them
 left_by : (config : Config) (forced : ℕ) (v w : View) (need : ℕ) → LeftBy forced v → (AllMarked v → AllMarked w)
     → w.log ≡ v.log → ((u r : ℕ) → value w u r ≡ value v u r) → config.heap + 1 < v.free + need
     → LacksBy config forced w need
@@ -359,7 +359,7 @@ left_by config (suc (suc k)) v w need by marked history values above = λ held h
     let one : held ≡ only.words = CostsSum-one (words_of v.log) (Held (value v)) held only.words there only.holds in
     omega (arith, one, above, only.free)
 
--- the threads are as they were behind a call that lacked words
+-- the threads are as they were after a call that lacked words
 pub lacked_states : {told : Bool} {script : Script} {config : Config} {shown : Shown} {forced : ℕ} {old new : Row}
     {t : ℕ} {lacks : Option ℕ} (need : ℕ) → AwaitsCall told script config shown forced old t
     → MakesCall shown old new t lacks → lacks ≡ Some need → new.states ≡ old.states
@@ -367,7 +367,7 @@ lacked_states {told} {script} {config} {shown} {forced} {old} {new} {t} {lacks} 
     let alone = lacked need is (call_over awaits m) in
     m.states ∙ (ap (λ (x : ThreadState). set old.states t x) alone.same ∙ set_got old.states t m.s m.was.at)
 
--- the run stands behind a call that lacked words
+-- the run stands after a call that lacked words
 lacked_stands : {told : Bool} {script : Script} {config : Config} {shown : Shown} {forced : ℕ} {old new : Row}
     {t : ℕ} {lacks : Option ℕ} (need : ℕ) → AwaitsCall told script config shown forced old t
     → MakesCall shown old new t lacks → lacks ≡ Some need → StandsBut (suc forced) told script config shown new
@@ -385,7 +385,7 @@ lacked_stands {told} {script} {config} {shown} {forced} {old} {new} {t} {lacks} 
     stands_same awaits.stands same
     (Table_lacks awaits.stands.table m.was.at m.was.lacking over.stands over.others
     (alone.call, alone.history, alone.values))
-    (quiet_behind old.view new.view t over.others alone.call awaits.stands.quiet) (call_makes awaits m)
+    (quiet_after old.view new.view t over.others alone.call awaits.stands.quiet) (call_makes awaits m)
 
 -- and the thread lacks them
 pub lacked_words : {told : Bool} {script : Script} {config : Config} {shown : Shown} {forced : ℕ} {old new : Row}
@@ -403,12 +403,12 @@ lacked_words {told} {script} {config} {shown} {forced} {old} {new} {t} {lacks} n
     record {
       stands = lacked_stands need awaits m is;
       few = awaits.few;
-      owed = subst (OweBehindCollects script) (sym states) awaits.owed;
+      owed = subst (OweAfterCollects script) (sym states) awaits.owed;
       own = subst NoneOwn (sym states) awaits.own;
       none_forwarded = alone.none_forwarded;
       waits = subst (λ (xs : List ThreadState). WaitsForRoom xs t) (sym states) awaits.waits;
       tight = subst (λ (c : Collector). IsTight config (last_of c)) (sym m.collector)
-          (tight_behind config old (length v.space.list) need awaits.collected words above alone.small);
+          (tight_after config old (length v.space.list) need awaits.collected words above alone.small);
       op = m.op;
       next = λ x at.
           let here : slice_get old.states t ≡ Some x =

@@ -16,7 +16,7 @@ use Rattle.melt_safepoint.proofs.Modes.{goes_on}
 use Rattle.melt_safepoint.proofs.Counting.{Adds, counts_on}
 use Rattle.melt_safepoint.specs.declared.collector.Collector.{Collector}
 use Rattle.melt_safepoint.specs.Rows.{CollectorStands, Row}
-use Rattle.melt_step.specs.Going.{ComesToRest, Goes, KeepsGoing, MadeCall, SomeGoes}
+use Rattle.melt_step.specs.Going.{ComesToRest, StandsInside, KeepsGoing, MadeCall, SomeStandsInside}
 use Rattle.melt_safepoint.specs.Collections.{MadeSoFar}
 use Rattle.melt_step.specs.Made.{MakesInUse}
 use Rattle.melt_safepoint.specs.Tables.{TakesTurn, ThreadStep, ThreadTold, TableStands, potential}
@@ -32,7 +32,7 @@ use Rattle.melt_safepoint.proofs.MakingAgain.{AgainBelow}
 use Rattle.melt_safepoint.proofs.Tables.{waiting_quiet}
 use Rattle.melt_safepoint.proofs.ToDo.{to_do_within_set}
 
--- a run stands on behind an event of a thread that can go on
+-- a run stands on after an event of a thread that can go on
 pub step_keeps : {finish : ℕ} {image : Option (List ℕ)} (old new : Row) (t : ℕ) {s : ThreadState} (after : ThreadState)
     → slice_get old.states t ≡ Some s → MayGo s.mode → TakesTurn finish image old.view new.view t s after
     → new.states ≡ set old.states t after → DueBy old.every s after → MakesInUse finish image old.view new.view
@@ -81,7 +81,7 @@ step_keeps {finish} {image} old new t {s} after at goes turn states due makes ev
 
 -- it has less to do than before
 pub step_less : {told : Bool} {script : Script} {config : Config} {shown : Shown} {finish : ℕ} (image : Option (List ℕ))
-    {old : Row} (w : View) (t : ℕ) {s : ThreadState} (after : ThreadState) → Goes told script config shown old
+    {old : Row} (w : View) (t : ℕ) {s : ThreadState} (after : ThreadState) → StandsInside told script config shown old
     → shown.end ≡ finish → slice_get old.states t ≡ Some s → MayGo s.mode → TakesTurn finish image old.view w t s after
     → potential (set old.states t after) w.calls < potential old.states old.view.calls
 step_less {told} {script} {config} {finish} image {old} w t {s} after stands ends at goes turn =
@@ -93,13 +93,13 @@ step_less {told} {script} {config} {finish} image {old} w t {s} after stands end
     record { ends = stands.under.ends ∙ ends; tells = λ wrong. absurd (let w : false ≡ true = wrong in cc) } in
     let step : ThreadStep false disk v w t s after = turn false disk under table.stands in
     let before : Standing false disk v = table.stands in
-    let behind : Standing false disk w = step.stands in
-    step_nearer table at goes step (behind.each ∙ (step.others.threads ∙ sym before.each))
+    let later : Standing false disk w = step.stands in
+    step_nearer table at goes step (later.each ∙ (step.others.threads ∙ sym before.each))
 
 -- it has no more to do than before
 pub step_to_do : {told : Bool} {script : Script} {config : Config} {shown : Shown} {finish : ℕ}
     (image : Option (List ℕ)) {old : Row} (w : View) (t : ℕ) {s : ThreadState} (after : ThreadState)
-    → Goes told script config shown old → shown.end ≡ finish → slice_get old.states t ≡ Some s → MayGo s.mode
+    → StandsInside told script config shown old → shown.end ≡ finish → slice_get old.states t ≡ Some s → MayGo s.mode
     → TakesTurn finish image old.view w t s after → to_do (set old.states t after) ≤ to_do old.states
 step_to_do {told} {finish} image {old} w t {s} after stands ends at goes turn =
     let disk : OnDisk = stands.disk in
@@ -112,7 +112,7 @@ step_to_do {told} {finish} image {old} w t {s} after stands ends at goes turn =
 -- the history has as much room as before
 pub step_capacity : {told : Bool} {script : Script} {config : Config} {shown : Shown} {finish : ℕ}
     (image : Option (List ℕ)) {old : Row} (w : View) (t : ℕ) {s : ThreadState} (after : ThreadState)
-    → Goes told script config shown old → shown.end ≡ finish → TakesTurn finish image old.view w t s after
+    → StandsInside told script config shown old → shown.end ≡ finish → TakesTurn finish image old.view w t s after
     → w.capacity ≡ old.view.capacity
 step_capacity {told} {finish} image {old} w t {s} after stands ends turn =
     let disk : OnDisk = stands.disk in
@@ -152,9 +152,9 @@ again_keeps shown old new n again quiet core collector every words is_told told 
     }
 
 -- what stood for some script stands on
-pub some_on : (finish : ℕ) (image : Option (List ℕ)) (old new : Row) → SomeGoes finish image old
+pub some_on : (finish : ℕ) (image : Option (List ℕ)) (old new : Row) → SomeStandsInside finish image old
     → ((shown : Shown) → shown.end ≡ finish → shown.image ≡ image → KeepsGoing shown old new)
-    → SomeGoes finish image new
+    → SomeStandsInside finish image new
 some_on finish image old new some keeps = (
   some.0,
   some.1,
@@ -164,7 +164,7 @@ some_on finish image old new some keeps = (
 
 -- a run between two epochs stands as in one
 pub goes_from : {told : Bool} {script : Script} {config : Config} {shown : Shown} {run : Row}
-    → RunStands told script config shown run → Goes told script config shown run
+    → RunStands told script config shown run → StandsInside told script config shown run
 goes_from {told} {script} {config} {shown} {run} stands = record {
   disk = stands.disk;
   under = stands.under;
@@ -179,9 +179,9 @@ goes_from {told} {script} {config} {shown} {run} stands = record {
   counts = stands.counts;
 }
 
--- and so behind one, where no thread can go on
+-- and so after one, where no thread can go on
 pub stands_from : {told : Bool} {script : Script} {config : Config} {shown : Shown} {run : Row} → AllWait run.states
-    → Goes told script config shown run → RunStands told script config shown run
+    → StandsInside told script config shown run → RunStands told script config shown run
 stands_from {told} {script} {config} {shown} {run} waits goes = record {
   disk = goes.disk;
   under = goes.under;
@@ -219,11 +219,11 @@ runs_all shown first old new none comes rests less collector = record {
 }
 
 -- and one in which one was made first
-pub runs_behind : (shown : Shown) (first : Option ℕ) (t : ℕ) (old mid new : Row) → first ≡ Some t
+pub runs_after : (shown : Shown) (first : Option ℕ) (t : ℕ) (old mid new : Row) → first ≡ Some t
     → MadeCall shown old mid t → to_do mid.states < to_do old.states → mid.collector ≡ old.collector
     → ComesToRest shown mid new → RestsWell new.states → to_do new.states ≤ to_do mid.states
     → new.collector ≡ mid.collector → RunsEpoch shown first old new
-runs_behind shown first t old mid new some made fewer same comes rests less collector =
+runs_after shown first t old mid new some made fewer same comes rests less collector =
     let under : to_do new.states < to_do old.states = omega (arith, fewer, less) in
     record {
       keeps = λ told script config may.

@@ -25,7 +25,8 @@ use Rattle.melt_scion.specs.Heaps.{OnDisk, no_homes_on, register_in}
 use Rattle.melt_scion.specs.Placed.{IsNamed, Maps}
 use Rattle.melt_scion.specs.State.{State}
 use Rattle.melt_core.specs.Advances.{IsDamage, MayAdvance}
-use Rattle.melt_core.specs.Advances.{AdvancesWhere, Continues, Goes, InBounds, IsAnswered, IsAsked, IsFull, IsRefused}
+use Rattle.melt_core.specs.Advances.{AdvancesWhere, Continues, CallGoesOn, InBounds, IsAnswered, IsAsked, IsFull}
+use Rattle.melt_core.specs.Advances.{IsRefused}
 use Rattle.melt_core.specs.Advances.{KeepsOthers, Refuses, TellsDisk}
 use Rattle.melt_core.specs.Known.{Known, word_in}
 use Rattle.melt_core.specs.Stages.{Word}
@@ -220,11 +221,11 @@ by_found {v} {w} x disk place dst next is names same (inr home) =
 by_read : {v x : View} (s : State) {search : Search} (shape : Shape) (kind : Kind) (next : Stage)
     → Untouched v x × IsFirst x search → ReadAs s search shape kind next → By v x (Some next)
 by_read {v} {x} s {search} shape Body next is reads =
-    subst (λ (g : Stage). By v x (Some g)) (sym reads) (behind (shape.refs + shape.nums == 0))
+    subst (λ (g : Stage). By v x (Some g)) (sym reads) (later (shape.refs + shape.nums == 0))
   where
-    behind : (whole : Bool) → By v x (Some (if whole then BodyRead search shape else HeadRead search shape))
-    behind true = is
-    behind false = is
+    later : (whole : Bool) → By v x (Some (if whole then BodyRead search shape else HeadRead search shape))
+    later true = is
+    later false = is
 by_read {v} {x} s {search} shape (Stub scion) next is reads = subst (λ (g : Stage). By v x (Some g)) (sym reads.2) tt
 
 by_copied : (v x : View) (a : Activation) (stored : ℕ) (next : Stage) → IsCopied x a.search
@@ -250,7 +251,7 @@ pub record OnCall (v w : View) (t : ℕ) (o : Op) : Type 0 where
 pub call_goes : {v w x : View} {t : ℕ} {o : Op} {tells : Type 0} {disk : OnDisk} → NoneForwarded v → OnCall v w t o
     → AdvancesWhere tells disk w x t o Going → OnCall v x t o
 call_goes {v} {w} {x} {t} {o} {disk} none on advances =
-    let goes : Goes disk w x t o = advances.outcome in
+    let goes : CallGoesOn disk w x t o = advances.outcome in
     let after : stage_of x t ≡ Some goes.stage = ap stage_in goes.call in
     record {
       others = KeepsOthers_both v w x t on.others advances.others;
@@ -272,7 +273,7 @@ call_goes {v} {w} {x} {t} {o} {disk} none on advances =
     copied_on false at word to other is applies =
         record { tried = is.tried; none = λ p. applies.1.forward p ∙ is.none p }
 
-    -- what is known of the call stays known with each event behind which it goes on
+    -- what is known of the call stays known with each event after which it goes on
     by_goes : (from : Option Stage) (next : Stage) → By v w from
         → Next (maps w) (state disk w) (register_in w.held t) w.stop o from next
         → Applies (maps w) (maps x) (state disk w) (state disk x)
@@ -508,10 +509,10 @@ pub call_told : {told : Bool} {disk : OnDisk} {v w x : View} (y : View) {t : ℕ
     → Standing told disk x → KeepsOthers w x t → IsAnswered disk w x t o reply → TakesReply s after reply
     → DropsIfEnded x y t after.mode → CalledOver told disk v y t s after o None
 call_told {told} {disk} {v} {w} {x} y {t} {after} lacking next no_collect on stood stands others answered takes drops =
-    let behind = dropped_stands told disk x y t after.mode stands drops in
+    let later = dropped_stands told disk x y t after.mode stands drops in
     record {
-      stands = behind.0;
-      others = KeepsOthers_both v w y t on.others (KeepsOthers_both w x y t others behind.1);
+      stands = later.0;
+      others = KeepsOthers_both v w y t on.others (KeepsOthers_both w x y t others later.1);
       what = inl (
         refl,
         stop_dropped x y t after.mode drops ∙ (answered.stop ∙ on.stop),
@@ -525,11 +526,11 @@ pub call_lost : {told : Bool} {image : Option (List ℕ)} {disk : OnDisk} {v w x
     → Begins told image disk w t o why → AdvancesWhere (TellsDisk image disk) disk w x t o (Refused why)
     → DropsIfEnded x y t (mode_for why) → CalledOver told disk v y t s (record s { mode = mode_for why }) o None
 call_lost {told} {image} {disk} {v} {w} {x} y {t} {o} s {why} lacking next no_pause on begins advances drops =
-    let behind =
+    let later =
     dropped_stands told disk x y t (mode_for why) (advances.keeps told begins.tells begins.stands) drops in
     record {
-      stands = behind.0;
-      others = KeepsOthers_both v w y t on.others (KeepsOthers_both w x y t advances.others behind.1);
+      stands = later.0;
+      others = KeepsOthers_both v w y t on.others (KeepsOthers_both w x y t advances.others later.1);
       what = inl (
         refl,
         stop_dropped x y t (mode_for why) drops ∙ (lost_stop why no_pause advances.outcome ∙ on.stop),

@@ -36,7 +36,7 @@ potential-first : (s : ThreadState) (states : List ThreadState) (calls : List (O
 potential-first s states [] = refl
 potential-first s states (c ∷ calls) = refl
 
--- the calls behind the first
+-- the calls after the first
 get_or-drop_first : (calls : List (Option Call)) (u : ℕ) → get_or (drop 1 calls) u None ≡ get_or calls (suc u) None
 get_or-drop_first [] u = refl
 get_or-drop_first (c ∷ calls) u = refl
@@ -46,11 +46,11 @@ potential-same : (states : List ThreadState) (a b : List (Option Call)) → ((u 
     → potential states b ≡ potential states a
 potential-same [] a b same = refl
 potential-same (s ∷ states) a b same =
-    let behind : potential states (drop 1 b) ≡ potential states (drop 1 a) =
+    let later : potential states (drop 1 b) ≡ potential states (drop 1 a) =
     potential-same states (drop 1 a) (drop 1 b)
     (λ u. get_or-drop_first b u ∙ (same (suc u) ∙ sym (get_or-drop_first a u))) in
     let here : part s (get_or b 0 None) ≡ part s (get_or a 0 None) = ap (part s) (same 0) in
-    omega (arith, potential-first s states a, potential-first s states b, behind, here)
+    omega (arith, potential-first s states a, potential-first s states b, later, here)
 
 -- one thread has less to do, and the others have as much as before
 potential-less : (states : List ThreadState) (a b : List (Option Call)) (t : ℕ) (s after : ThreadState)
@@ -59,20 +59,20 @@ potential-less : (states : List ThreadState) (a b : List (Option Call)) (t : ℕ
 potential-less [] a b t s after at same less = absurd (let none : slice_get [] t ≡ Some s = at in cc)
 potential-less (x ∷ states) a b zero s after at same less =
     let here : x ≡ s = same_Some x s at in
-    let behind : potential states (drop 1 b) ≡ potential states (drop 1 a) =
+    let later : potential states (drop 1 b) ≡ potential states (drop 1 a) =
     potential-same states (drop 1 a) (drop 1 b)
     (λ u. get_or-drop_first b u ∙ (same (suc u) (omega arith) ∙ sym (get_or-drop_first a u))) in
     let part_is : part x (get_or a 0 None) ≡ part s (get_or a 0 None) =
     ap (λ (y : ThreadState). part y (get_or a 0 None)) here in
-    omega (arith, potential-first x states a, potential-first after states b, behind, part_is, less)
+    omega (arith, potential-first x states a, potential-first after states b, later, part_is, less)
 potential-less (x ∷ states) a b (suc t) s after at same less =
     let here : part x (get_or b 0 None) ≡ part x (get_or a 0 None) = ap (part x) (same 0 (omega arith)) in
     let lower : part after (get_or (drop 1 b) t None) < part s (get_or (drop 1 a) t None) =
     rw (get_or-drop_first b t, get_or-drop_first a t) less in
-    let behind : potential (set states t after) (drop 1 b) < potential states (drop 1 a) =
+    let later : potential (set states t after) (drop 1 b) < potential states (drop 1 a) =
     potential-less states (drop 1 a) (drop 1 b) t s after at
     (λ u differ. get_or-drop_first b u ∙ (same (suc u) (omega (arith, differ)) ∙ sym (get_or-drop_first a u))) lower in
-    omega (arith, potential-first x states a, potential-first x (set states t after) b, behind, here)
+    omega (arith, potential-first x states a, potential-first x (set states t after) b, later, here)
 
 -- what a thread has to do, told by what its mode and its operations are
 part_less : (s after : ThreadState) (c d : Option Call) {m k : Mode} {n p : ℕ} → s.mode ≡ m → length (left s) ≡ n

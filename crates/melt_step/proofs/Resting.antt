@@ -100,11 +100,11 @@ pub only_view : (heap new : Heap) (rest after : Rest) → is_some new.names ≡ 
     → rest_view new (with_names_held (beside_of heap rest) (Some (names_in new)) after.held.items)
     ≡ view (core_of new after)
 only_view heap new rest after kept only =
-    same_view new heap rest after kept only.calls only.records only.log only.told only.made
+    same_view new heap rest after kept only.calls only.records only.log only.shadow_log only.made
   where
     same_view : (new heap : Heap) (rest after : Rest) → is_some new.names ≡ is_some heap.names
         → after.calls.items ≡ rest.calls.items → after.records.items ≡ rest.records.items → after.log ≡ rest.log
-        → after.told ≡ rest.told → after.made ≡ rest.made
+        → after.shadow_log ≡ rest.shadow_log → after.made ≡ rest.made
         → rest_view new (with_names_held (beside_of heap rest) (Some (names_in new)) after.held.items)
         ≡ view (core_of new after)
     same_view new heap rest after kept calls records log told made = cc

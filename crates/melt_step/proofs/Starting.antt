@@ -146,9 +146,9 @@ Thread_new told script {entries} t {heap} {rest} {s} at_rest new_rest below new 
       to_come = new.to_come ∙ ap (λ (rs : List Reply). drop (length rs) ops) (sym new.replies);
       within = omega (arith, ap length new.replies, ap length new.to_come);
       none_left = new.none_left;
-      is_told = λ is. record {
+      replies_stand = λ is. record {
         registers = replicate 16 Nil;
-        told = subst (λ (rs : List Reply). Stands v.log t (take (length rs) ops) rs (replicate 16 Nil))
+        stands = subst (λ (rs : List Reply). Stands v.log t (take (length rs) ops) rs (replicate 16 Nil))
             (sym new.replies) nothing;
         in_registers = inr (sym none);
       };

@@ -51,11 +51,11 @@ SetsBy all after t o (Refused refusal) = (u : ℕ) → after u ≡ all u
 pub record OnlyRegisters (rest after : Rest) : Type 0 where
   pub threads : length after.held.items ≡ length rest.held.items
   pub before : All (λ (x : Registers). length x.regs ≡ 16) rest.held.items
-  pub behind : All (λ (x : Registers). length x.regs ≡ 16) after.held.items
+  pub afterwards : All (λ (x : Registers). length x.regs ≡ 16) after.held.items
   pub calls : after.calls.items ≡ rest.calls.items
   pub records : after.records.items ≡ rest.records.items
   pub log : after.log ≡ rest.log
-  pub told : after.told ≡ rest.told
+  pub shadow_log : after.shadow_log ≡ rest.shadow_log
   pub made : after.made ≡ rest.made
 
 -- A planned collection of some phase, of a heap and its registers and of a disk, with the end and the words that it

@@ -31,7 +31,7 @@ abbrev pub kept_view : {stored : ℕ} → Ordered stored → View
 kept_view {stored} it = view_by stored it.core
 
 -- A run stands inside an epoch as between two, but that calls may be in flight.
-pub record Goes (told : Bool) (script : Script) (config : Config) (shown : Shown) (run : Row) : Type 0 where
+pub record StandsInside (told : Bool) (script : Script) (config : Config) (shown : Shown) (run : Row) : Type 0 where
   pub disk : OnDisk
   pub under : Underlies told shown.end shown.image disk
   pub none_free : disk.free_homes ≡ []
@@ -45,18 +45,19 @@ pub record Goes (told : Bool) (script : Script) (config : Config) (shown : Shown
   pub counts : CountsCollections script config 0 run.states (length run.collector.journal.items)
 
 -- for some script, over homes that end so and the words that a reader tells
-abbrev pub SomeGoes : ℕ → Option (List ℕ) → Row → Type 0
-SomeGoes finish image run = (shown : Shown) × (shown.end ≡ finish) × (shown.image ≡ image)
-    × ((told : Bool) × (script : Script) × (config : Config) × Goes told script config shown run)
+abbrev pub SomeStandsInside : ℕ → Option (List ℕ) → Row → Type 0
+SomeStandsInside finish image run = (shown : Shown) × (shown.end ≡ finish) × (shown.image ≡ image)
+    × ((told : Bool) × (script : Script) × (config : Config) × StandsInside told script config shown run)
 
 -- for each script for which the run stood, told or not, it stands
 abbrev pub KeepsGoing : Shown → Row → Row → Type 0
-KeepsGoing shown old new = (told : Bool) (script : Script) (config : Config) → Goes told script config shown old
-    → Goes told script config shown new
+KeepsGoing shown old new = (told : Bool) (script : Script) (config : Config) → StandsInside told script config shown old
+    → StandsInside told script config shown new
 
--- and so behind the epoch, where no call is in flight
+-- and so after the epoch, where no call is in flight
 abbrev pub ComesToRest : Shown → Row → Row → Type 0
-ComesToRest shown old new = (told : Bool) (script : Script) (config : Config) → Goes told script config shown old
+ComesToRest shown old new = (told : Bool) (script : Script) (config : Config) → StandsInside told script config shown
+    old
     → RunStands told script config shown new
 
 -- A run has less to do than before, events counted too.
@@ -83,7 +84,7 @@ pub record MakesCall (shown : Shown) (old new : Row) (t : ℕ) (lacks : Option �
 -- The call of the thread was made: it has less to do, and waits for nothing.
 pub record MadeCall (shown : Shown) (old new : Row) (t : ℕ) : Type 0 where
   pub keeps : (told : Bool) (script : Script) (config : Config) (forced : ℕ)
-      → AwaitsCall told script config shown forced old t → Goes told script config shown new
+      → AwaitsCall told script config shown forced old t → StandsInside told script config shown new
   pub quiet : IsQuiet new.view
   pub stop : new.view.stop ≡ false
   pub called : CalledAt old.states new.states t

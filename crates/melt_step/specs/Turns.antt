@@ -38,7 +38,7 @@ pub record OfLine (orders : List (ℕ × ℕ)) (states : List ThreadState) (old 
   pub over : new.left ≡ 0 → new.line ≡ k + 1
   pub turn : new.turn ≡ old.turn
 
--- The next event is one in turn, as no line is left: the first thread that can go on, from the one behind the last that
+-- The next event is one in turn, as no line is left: the first thread that can go on, from the one after the last that
 -- had a turn, and again from thread 0.
 pub record InTurn (orders : List (ℕ × ℕ)) (states : List ThreadState) (old new : Turns) (t : ℕ) : Type 0 where
   pub no_line : NoLine orders states old.line (length orders)
@@ -55,7 +55,7 @@ pub record NoTurn (states : List ThreadState) (old new : Turns) : Type 0 where
   pub whole : old.left ≡ 0 → new ≡ old
   pub begun : old.left ≢ 0 → old.line < 4294967295 → new ≡ record old { line = old.line + 1; left = 0 }
 
--- A thread takes all further events: no line of the trace is left, and no other thread can go on. Behind them it is the
+-- A thread takes all further events: no line of the trace is left, and no other thread can go on. After them it is the
 -- turn of the next one.
 pub record GivesAll (orders : List (ℕ × ℕ)) (states : List ThreadState) (old new : Turns) (t : ℕ) : Type 0 where
   pub no_line : length orders ≤ old.line

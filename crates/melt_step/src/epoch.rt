@@ -16,7 +16,7 @@ ghost use Rattle.melt_safepoint.specs.Rows.{SomeAwaits, StandsBut, row_of};
 ghost use Rattle.melt_safepoint.specs.Shown.{Shown};
 ghost use Rattle.melt_safepoint.specs.Tables.{KnowsStop, potential};
 ghost use Rattle.melt_safepoint.specs.Threads.{AllWait};
-ghost use Rattle.melt_step.specs.Going.{CallsFirst, ComesToRest, IsNearer, KeepsGoing, SomeGoes};
+ghost use Rattle.melt_step.specs.Going.{CallsFirst, ComesToRest, IsNearer, KeepsGoing, SomeStandsInside};
 ghost use Rattle.melt_step.specs.Going.{core_view};
 ghost use Rattle.melt_step.specs.Turns.{GoesAt};
 
@@ -29,7 +29,7 @@ use melt_io::RecordReader;
 use melt_model::Halt;
 use melt_safepoint::{Ended, Run, halt_run};
 
-/// Begins a new epoch behind one in which nothing came back from the disk.
+/// Begins a new epoch after one in which nothing came back from the disk.
 fn renew(core: Core) -> Core
     requires quiet { IsQuiet (view core) }
     requires none_forwarded { NoneForwarded (view core) }
@@ -99,7 +99,7 @@ fn make_turn<R: RecordReader, const STORED: usize>(
     end: u32,
     reader: &mut R,
 )
-    requires stands { SomeGoes end (R.image reader.old) (row_of core_view run.old) }
+    requires stands { SomeStandsInside end (R.image reader.old) (row_of core_view run.old) }
     requires stop { KnowsStop (view run.old.machine.core) run.old.states.items }
     requires goes { GoesAt run.old.states.items thread }
     ensures keeps { (shown : Shown) → shown.end ≡ end → shown.image ≡ R.image reader.old
@@ -125,7 +125,7 @@ pub fn take_turn<R: RecordReader, const STORED: usize>(
     end: u32,
     reader: &mut R,
 ) -> Option<u32>
-    requires stands { SomeGoes end (R.image reader.old) (row_of core_view run.old) }
+    requires stands { SomeStandsInside end (R.image reader.old) (row_of core_view run.old) }
     requires stop { KnowsStop (view run.old.machine.core) run.old.states.items }
     ensures keeps { (shown : Shown) → shown.end ≡ end → shown.image ≡ R.image reader.old
         → KeepsGoing shown (row_of core_view run.old) (row_of core_view run.new) }
@@ -155,7 +155,7 @@ fn give_all<R: RecordReader, const STORED: usize>(
     end: u32,
     reader: &mut R,
 )
-    requires stands { SomeGoes end (R.image reader.old) (row_of core_view run.old) }
+    requires stands { SomeStandsInside end (R.image reader.old) (row_of core_view run.old) }
     requires stop { KnowsStop (view run.old.machine.core) run.old.states.items }
     requires there { thread < length run.old.states.items }
     ensures keeps { (shown : Shown) → shown.end ≡ end → shown.image ≡ R.image reader.old
@@ -186,7 +186,7 @@ fn give_events<R: RecordReader, const STORED: usize>(
     end: u32,
     reader: &mut R,
 )
-    requires stands { SomeGoes end (R.image reader.old) (row_of core_view run.old) }
+    requires stands { SomeStandsInside end (R.image reader.old) (row_of core_view run.old) }
     requires stop { KnowsStop (view run.old.machine.core) run.old.states.items }
     ensures keeps { (shown : Shown) → shown.end ≡ end → shown.image ≡ R.image reader.old
         → KeepsGoing shown (row_of core_view run.old) (row_of core_view run.new) }
@@ -260,12 +260,12 @@ fn resume<const STORED: usize>(run: &mut Run<'_, Ordered<'_, STORED>>)
 }
 
 /// Lets all threads go on until none can. Those whose calls were refused make them again.
-fn go_on<R: RecordReader, const STORED: usize>(
+fn run_events<R: RecordReader, const STORED: usize>(
     run: &mut Run<'_, Ordered<'_, STORED>>,
     end: u32,
     reader: &mut R,
 )
-    requires stands { SomeGoes end (R.image reader.old) (row_of core_view run.old) }
+    requires stands { SomeStandsInside end (R.image reader.old) (row_of core_view run.old) }
     requires own { NoneOwn run.old.states.items }
     requires quiet { IsQuiet (view run.old.machine.core) }
     requires stop { (view run.old.machine.core).stop ≡ false }
@@ -301,12 +301,12 @@ pub fn go_through<R: RecordReader, const STORED: usize>(
 {
     match first {
         None => {
-            go_on(run, end, reader);
+            run_events(run, end, reader);
             None
         }
         Some(thread) => match call(run, thread, end, reader) {
             None => {
-                go_on(run, end, reader);
+                run_events(run, end, reader);
                 None
             }
             Some(need) => Some(need),

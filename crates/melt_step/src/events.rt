@@ -146,7 +146,7 @@ fn next_call(core: &Core, state: &ThreadState<'_>, thread: u32, known: Option<Op
 
 /// Makes the next event of a thread that can go on, and goes on alone, over a disk whose homes end before `end`; or,
 /// where it begins a call, the events of that in one go, as far as that is quick. The operation of that call may be
-/// known, and the answer is the one whose call it is to begin behind it, if that is known.
+/// known, and the answer is the one whose call it is to begin after it, if that is known.
 // (inlined for the same reason as `make_event`)
 #[inline(always)]
 pub fn make_events<R: RecordReader>(

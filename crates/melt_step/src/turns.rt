@@ -9,7 +9,7 @@ use melt_safepoint::ThreadState;
 use melt_trace::Trace;
 
 /// Where the giving out of events stands: at a line of the trace's orders, of whose events some are left if it was
-/// begun; and, behind the last line, at the thread whose turn it is.
+/// begun; and, after the last line, at the thread whose turn it is.
 #[derive(Drop)]
 pub struct Turns {
     line: u32,
@@ -61,7 +61,7 @@ impl Turns {
         None
     }
 
-    /// The thread that has the next event, if one can go on. Behind the last line the threads take one event each, in
+    /// The thread that has the next event, if one can go on. After the last line the threads take one event each, in
     /// ascending order and again from the first. A line that is begun is not taken up again once no thread can go on.
     // (inlined, since it is asked before each event)
     #[inline(always)]
@@ -95,7 +95,7 @@ impl Turns {
     }
 
     /// Gives all further events to a thread, until it cannot go on, if it is to have them: no line is left, and no other
-    /// thread can go on. While one goes on, none begins to. Behind them it is the turn of the next thread.
+    /// thread can go on. While one goes on, none begins to. After them it is the turn of the next thread.
     pub fn gives_all(&mut self, trace: &Trace, states: &[ThreadState<'_>], thread: u32) -> bool
         requires { length states.now ≤ 8 }
         ensures all { result ≡ true → GivesAll trace.now.orders states.now self.old self.new thread }

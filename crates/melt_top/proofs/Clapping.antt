@@ -185,10 +185,10 @@ some_is a b e = ap (λ o. unwrap_or o a) e
 none_is_some : {X : Type 0} (x : X) → None ≡ Some x → ⊥
 none_is_some x e = true≢false (ap is_some (sym e))
 
--- text behind an ASCII character has a character
-char_behind : (x : ℕ) (xs : Text) → IsUtf8 (45 ∷ x ∷ xs) → (y : ℕ) × (slice_get (chars (x ∷ xs)) 0 ≡ Some y)
+-- text after an ASCII character has a character
+char_after : (x : ℕ) (xs : Text) → IsUtf8 (45 ∷ x ∷ xs) → (y : ℕ) × (slice_get (chars (x ∷ xs)) 0 ≡ Some y)
 unfolding encode_utf8
-char_behind x xs utf8 = go (chars (x ∷ xs)) (chars_past_char (45 ∷ x ∷ xs) (x ∷ xs) 45 utf8 refl)
+char_after x xs utf8 = go (chars (x ∷ xs)) (chars_past_char (45 ∷ x ∷ xs) (x ∷ xs) 45 utf8 refl)
   where
     go : (cs : List ℕ) → chars (45 ∷ x ∷ xs) ≡ 45 ∷ cs → (y : ℕ) × (slice_get cs 0 ≡ Some y)
     go [] e =
@@ -197,7 +197,7 @@ char_behind x xs utf8 = go (chars (x ∷ xs)) (chars_past_char (45 ∷ x ∷ xs)
         absurd (omega (arith, ap length bytes))
     go (y ∷ cs) e = (y, refl)
 
--- a word that begins with one hyphen, and not with two, has a character behind it
+-- a word that begins with one hyphen, and not with two, has a character after it
 short_parts : (word flags : Text) → IsUtf8 word → short_of word ≡ Some flags
     → (0 < length flags) × ((y : ℕ) × (slice_get (chars flags) 0 ≡ Some y))
 short_parts [] flags utf8 e = absurd (none_is_some flags e)
@@ -209,12 +209,12 @@ short_parts (b ∷ []) flags utf8 e = go (b == 45) e
     go false h = absurd (none_is_some flags h)
 short_parts (b ∷ x ∷ xs) flags utf8 e = go (b == 45) refl e
   where
-    behind : (d : Bool) → b ≡ 45 → cond d None (Some (x ∷ xs)) ≡ Some flags → (0 < length flags) ×
+    later : (d : Bool) → b ≡ 45 → cond d None (Some (x ∷ xs)) ≡ Some flags → (0 < length flags) ×
         ((y : ℕ) × (slice_get (chars flags) 0 ≡ Some y))
-    behind true hyphen h = absurd (none_is_some flags h)
-    behind false hyphen h =
+    later true hyphen h = absurd (none_is_some flags h)
+    later false hyphen h =
         let Utf8 : ℕ → Type 0 = λ a. IsUtf8 (a ∷ x ∷ xs) in
-        let found = char_behind x xs (subst Utf8 hyphen utf8) in
+        let found = char_after x xs (subst Utf8 hyphen utf8) in
         let flags_are : flags ≡ x ∷ xs = sym (some_is (x ∷ xs) flags h) in
         let Has : Text → Type 0 = λ f. (0 < length f) × ((y : ℕ) × (slice_get (chars f) 0 ≡ Some y)) in
         subst Has (sym flags_are) (omega arith, found)
@@ -222,7 +222,7 @@ short_parts (b ∷ x ∷ xs) flags utf8 e = go (b == 45) refl e
     go : (c : Bool) → (b == 45) ≡ c → option_and_then short_of_rest (cond c (Some (x ∷ xs)) None) ≡ Some flags
         → (0 < length flags) × ((y : ℕ) × (slice_get (chars flags) 0 ≡ Some y))
     go false is h = absurd (none_is_some flags h)
-    go true is h = behind (x == 45) (eqb-true b 45 is) h
+    go true is h = later (x == 45) (eqb-true b 45 is) h
 
 -- What the parser and the reading of words come to is the same.
 abbrev pub Agrees : Names → Kinds → List Row → Option Given → Type 0
@@ -261,7 +261,7 @@ module _ (title : Text) (names : Names) where
       fails_first (or_else (turn_fault shape [] w word) (walk_fault shape [] (walked rules [] w word) words)) _
       (fails_first (turn_fault shape [] w word) _ fails)
 
-  -- behind a word without a fault
+  -- after a word without a fault
   next_words : (w : Walk) (word : Text) (words : List Text) (next : Walk) (read : Option Given)
       → turn_fault shape [] w word ≡ [] → walked rules [] w word ≡ next
       → Agrees names (faults_from next words) (rows_from next words) read
@@ -271,11 +271,11 @@ module _ (title : Text) (names : Names) where
       let From : Walk → Type 0 =
       λ n. Agrees names (or_else (walk_fault shape [] n words)
       (settle_fault rules false (fold (walked rules []) n words).held)) (rows_from n words) read in
-      let Behind : Kinds → Type 0 =
+      let After : Kinds → Type 0 =
       λ f. Agrees names (or_else (or_else f (walk_fault shape [] (walked rules [] w word) words))
       (settle_fault rules false (fold (walked rules []) (walked rules [] w word) words).held))
       (rows_from (walked rules [] w word) words) read in
-      subst Behind (sym none) (subst From (sym same) agrees)
+      subst After (sym none) (subst From (sym same) agrees)
 
   -- no option has a short form
   bundle_fails : (f : ℕ) (fs : Text) (x : ℕ) (rows : List Row) (pending : Option (Text × List Text)) → slice_get

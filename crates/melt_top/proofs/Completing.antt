@@ -21,7 +21,7 @@ use Rattle.melt_top.specs.Headline.{CanBeDone, Change, DiskChange, Due, EndsARun
 use Rattle.melt_top.specs.Headline.{IsTrace, ServedWell, WasRead}
 use Rattle.melt_top.specs.declared.command.Command.{Command}
 use Rattle.melt_top.specs.declared.command.Command.TheVariants.{Gen, Step, Threads}
-use Rattle.melt_top.specs.declared.command.Run.{Run}
+use Rattle.melt_top.specs.declared.command.RunOptions.{RunOptions}
 use Rattle.melt_top.specs.declared.status.Status.{Status}
 use Rattle.melt_top.specs.declared.status.Status.TheVariants as status
 use Rattle.melt_top.specs.declared.top.Way.{Way}
@@ -104,7 +104,7 @@ report_ends report = report_so Else (λ no_fault no_damage. absurd (no_fault ref
     (λ no_fault no_damage. absurd (no_damage refl)) (λ no_fault no_damage. inr (inr refl))
     (λ no_fault no_damage. inr (inl refl)) (λ no_fault no_damage. inl refl) report
 
-run_complete : (way : Way) (run : Run) (input : Change) (disk : DiskChange) (due : Status) (output : List ℕ)
+run_complete : (way : Way) (run : RunOptions) (input : Change) (disk : DiskChange) (due : Status) (output : List ℕ)
     → InputDue way run input disk due output → IsTrace input.before
     → (Rose input.faults_before input.faults_after → ⊥) → ServedWell disk → EndsARun due
 run_complete way run input disk due output (inl failed) good reading served = absurd (reading failed.fault)

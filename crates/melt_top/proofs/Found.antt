@@ -55,7 +55,7 @@ module _ (get : Row → Option Text) (on_given : (name value : Text) → get (ro
   abbrev if_named : (name id : Text) → Option Text
   if_named name id = cond (bytes_eq name id) (Some missing) None
 
-  -- behind all rows stands one more
+  -- after all rows stands one more
   got_more : (name id : Text) (rows : List Row)
       → got id (rows ++ default_row name ∷ [])
       ≡ cond (has_row id rows) (got id rows) (if_named name id)
@@ -108,10 +108,10 @@ module _ (get : Row → Option Text) (on_given : (name value : Text) → get (ro
   abbrev text_after : List Text → List Row → Text → Option Text
   text_after flags rows id = got id (fold with_default rows (map flag_for flags))
 
-  behind_flags : (flags : List Text) (rows : List Row) (id : Text)
+  after_flags : (flags : List Text) (rows : List Row) (id : Text)
       → Reads flags rows id (text_after flags rows id)
-  behind_flags [] rows id = alone id rows
-  behind_flags (n ∷ flags) rows id = go (has_row n rows) refl (behind_flags flags (with_default rows (flag_for n)) id)
+  after_flags [] rows id = alone id rows
+  after_flags (n ∷ flags) rows id = go (has_row n rows) refl (after_flags flags (with_default rows (flag_for n)) id)
     where
       same : (b : Bool) → bytes_eq n id ≡ b → has_row n rows ≡ true
           → Reads flags rows id (text_after (n ∷ flags) rows id) → text_after (n ∷ flags) rows id
@@ -136,13 +136,13 @@ module _ (get : Row → Option Text) (on_given : (name value : Text) → get (ro
           ∙ rw (has_row-more n id rows, got_more n id rows)
           (either (has_row id rows) (bytes_eq n id) (is_among flags id) (got id rows))
 
-  behind_options : (options flags : List Text) (rows : List Row) (id : Text)
+  after_options : (options flags : List Text) (rows : List Row) (id : Text)
       → Reads flags rows id (got id (fold with_default rows (map rule_for options ++ map flag_for flags)))
-  behind_options [] flags rows id = behind_flags flags rows id
-  behind_options (n ∷ options) flags rows id =
+  after_options [] flags rows id = after_flags flags rows id
+  after_options (n ∷ options) flags rows id =
       subst (λ (r : List Row). Reads flags rows id
       (got id (fold with_default r (map rule_for options ++ map flag_for flags))))
-      (sym (option_default rows n)) (behind_options options flags rows id)
+      (sym (option_default rows n)) (after_options options flags rows id)
 
   -- what is read of a name
   reads : (names : Names) (given : Given) (id : Text)
@@ -150,7 +150,7 @@ module _ (get : Row → Option Text) (on_given : (name value : Text) → get (ro
       ≡ cond (is_given given id) (option_map (text_for names) (find (λ g. bytes_eq g.0 id) given))
       (cond (is_among names.flags id) (Some missing) None)
   reads names given id =
-      behind_options names.options names.flags (rows_for names given) id
+      after_options names.options names.flags (rows_for names given) id
       ∙ rw (has_row-for names given id, got_given names given id) refl
 
 -- ---- options and flags

@@ -44,11 +44,11 @@ asked_built verb.Step = refl
 asked_built verb.Run = refl
 asked_built verb.Gen = refl
 
-words_behind_the_first : (v : Verb) (all : List (List ℕ))
+words_after_the_first : (v : Verb) (all : List (List ℕ))
     → argument_words (asked_for (title_of v) (names_of_verb v)) all ≡ drop 1 all
-words_behind_the_first verb.Step all = refl
-words_behind_the_first verb.Run all = refl
-words_behind_the_first verb.Gen all = refl
+words_after_the_first verb.Step all = refl
+words_after_the_first verb.Run all = refl
+words_after_the_first verb.Gen all = refl
 
 given_without_dashes : (names : Names) (words : List (List ℕ)) → list_any parts_options words ≡ false
     → given_of names words ≡ read_from names (record { given = []; waits = None }) words
@@ -62,7 +62,7 @@ options_agree v app all is none each =
     subst (Comes (names_of_verb v) (fault_of app all) (matches_of app all))
     (sym (given_without_dashes (names_of_verb v) (drop 1 all) none))
     (parser_agrees (title_of v) (names_of_verb v) (drop 1 all) all app (ap built is ∙ asked_built v)
-    (ap (λ (a : App). argument_words a all) is ∙ words_behind_the_first v all) each)
+    (ap (λ (a : App). argument_words a all) is ∙ words_after_the_first v all) each)
 
 -- ---- what is answered
 
@@ -94,11 +94,11 @@ refused names words faults rows e r comes (inl memory) is =
 refused names words faults rows e r comes (inr among) is =
     refused_so names words r (nothing_given names (given_of names words) faults rows (kind_of e) comes among)
 
--- ---- words in a loop, and those behind the first
+-- ---- words in a loop, and those after the first
 
-pub here_and_behind : {A : Type 0} (xs : List A) (i : ℕ) (x : A) → i < length xs → x ≡ get_or xs i x
+pub here_and_after : {A : Type 0} (xs : List A) (i : ℕ) (x : A) → i < length xs → x ≡ get_or xs i x
     → drop i xs ≡ x ∷ drop (i + 1) xs
-here_and_behind xs i x within is =
+here_and_after xs i x within is =
     let on : suc i ≡ i + 1 = omega arith in
     drop-cons xs i x within ∙ ap (λ y. y ∷ drop (suc i) xs) (sym is) ∙ ap (λ (j : ℕ). x ∷ drop j xs) on
 
@@ -113,9 +113,9 @@ take_all : {A : Type 0} (xs : List A) → take (length xs) xs ≡ xs
 take_all [] = refl
 take_all (x ∷ xs) = ap (λ ys. x ∷ ys) (take_all xs)
 
-pub behind_first : {A : Type 0} (f : A → List ℕ) (xs : List A)
+pub after_first : {A : Type 0} (f : A → List ℕ) (xs : List A)
     → map f (take (length xs - 1) (drop 1 xs)) ≡ drop 1 (map f xs)
-behind_first f [] = refl
-behind_first f (x ∷ xs) =
+after_first f [] = refl
+after_first f (x ∷ xs) =
     let fewer : suc (length xs) - 1 ≡ length xs = omega arith in
     ap (λ (n : ℕ). map f (take n xs)) fewer ∙ ap (map f) (take_all xs)

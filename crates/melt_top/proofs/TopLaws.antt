@@ -25,7 +25,7 @@ use Rattle.melt_top.specs.Command.{halted_by_fault, halted_by_full}
 use Rattle.melt_top.specs.Headline.{Change, IsUntouched, ReadAFront, ReadAtMost, InputDue, Due, IsUsage, WroteAll}
 use Rattle.melt_top.specs.Headline.{Outcome, IsBuilt, DiskChange, IsUnused, TraceDue}
 use Rattle.melt_top.specs.declared.command.Command.{Command}
-use Rattle.melt_top.specs.declared.command.Run.{Run}
+use Rattle.melt_top.specs.declared.command.RunOptions.{RunOptions}
 use Rattle.melt_top.specs.declared.command.Command.TheVariants.{Gen, Step, Threads}
 use Rattle.melt_top.specs.declared.status.Status.{Status}
 use Rattle.melt_top.specs.declared.status.Status.TheVariants as status
@@ -51,7 +51,8 @@ read_a_front input n few count =
     record { bytes = t.0; front = t.2; no_more = omega (arith, t.1) }
 
 -- the reading failed
-pub read_failed : (way : Way) (run : Run) (input : Change) {disk : DiskChange} (n : ℕ) {due : Status} {output : List ℕ}
+pub read_failed : (way : Way) (run : RunOptions) (input : Change) {disk : DiskChange} (n : ℕ) {due : Status} {output :
+    List ℕ}
     → n ≤ max_bytes + 1 → TakesCount input.before n input.after → Rose input.faults_before input.faults_after
     → IsUnused disk → due ≡ status.ReadFault → output ≡ read_fault_text → InputDue way run input disk due output
 read_failed way run input n few count rose unused is told =
@@ -63,14 +64,15 @@ read_failed way run input n few count rose unused is told =
       fault = rose;
       disk_stays = unused;
       status = is;
-      told = told;
+      written = told;
     })
 
 -- more bytes than a trace may have
 pub long_refused : (bytes : List ℕ) → max_bytes < length bytes → script_of bytes ≡ Err (0, 1)
 long_refused bytes long = cond-false (nat_le (length bytes) max_bytes) _ _ (lt-leb (length bytes) max_bytes long)
 
-pub too_long : (way : Way) (run : Run) (input : Change) {disk : DiskChange} {n : ℕ} {due : Status} {output : List ℕ}
+pub too_long : (way : Way) (run : RunOptions) (input : Change) {disk : DiskChange} {n : ℕ} {due : Status} {output : List
+    ℕ}
     → n ≡ max_bytes + 1 → TakesCount input.before n input.after → IsUnused disk → due ≡ status.Trace
     → output ≡ refused_text 0 1 → InputDue way run input disk due output
 too_long way run input {n} long count unused is told =
@@ -88,7 +90,7 @@ too_long way run input {n} long count unused is told =
         first_bad = long_refused t.0 (omega (arith, t.1, long));
         disk_stays = unused;
         status = is;
-        told = told;
+        written = told;
       });
     })
 
@@ -153,7 +155,7 @@ MayBeDue status.Damaged = Unit {0}
 MayBeDue status.BadDump = ⊥
 MayBeDue status.Illegal = ⊥
 
-input_due : (way : Way) (run : Run) (input : Change) (disk : DiskChange) (due : Status) (output : List ℕ)
+input_due : (way : Way) (run : RunOptions) (input : Change) (disk : DiskChange) (due : Status) (output : List ℕ)
     → InputDue way run input disk due output → MayBeDue due
 input_due way run input disk due output (inl failed) = subst MayBeDue (sym failed.status) tt
 input_due way run input disk due output (inr read) = elim read.trace [
@@ -217,7 +219,7 @@ wrote_all command input disk out due {output} is same written =
 
 -- ---- words that are refused
 
-no_usage : (way : Way) (run : Run) (input : Change) (disk : DiskChange) (due : Status) (output : List ℕ)
+no_usage : (way : Way) (run : RunOptions) (input : Change) (disk : DiskChange) (due : Status) (output : List ℕ)
     → InputDue way run input disk due output → due ≡ status.Usage → ⊥
 no_usage way run input disk due output (inl failed) e = omega (arith, ap exit_number failed.status, ap exit_number e)
 no_usage way run input disk due output (inr read) e = elim read.trace [
@@ -269,7 +271,7 @@ read_nothing (Some (Gen recipe)) input is = is
 
 -- ---- causes
 
-input_fault_rose : (way : Way) (run : Run) (input : Change) (disk : DiskChange) (due : Status) (output : List ℕ)
+input_fault_rose : (way : Way) (run : RunOptions) (input : Change) (disk : DiskChange) (due : Status) (output : List ℕ)
     → InputDue way run input disk due output → due ≡ status.ReadFault → Rose input.faults_before input.faults_after
 input_fault_rose way run input disk due output (inl failed) e = failed.fault
 input_fault_rose way run input disk due output (inr read) e = elim read.trace [
@@ -299,7 +301,7 @@ no_write_fault command input disk due output is e = subst MayBeDue e (is_due com
 -- ---- the disk
 
 -- a refused trace does not use it
-pub refused_trace : (way : Way) (run : Run) (bytes : List ℕ) {disk : DiskChange} {due : Status} {output : List ℕ}
+pub refused_trace : (way : Way) (run : RunOptions) (bytes : List ℕ) {disk : DiskChange} {due : Status} {output : List ℕ}
     {line reason : ℕ} → script_of bytes ≡ Err (line, reason) → IsUnused disk → due ≡ status.Trace
     → output ≡ refused_text line reason → TraceDue way run bytes disk due output
 refused_trace way run bytes {line} {reason} bad unused is told = inl (record {
@@ -308,7 +310,7 @@ refused_trace way run bytes {line} {reason} bad unused is told = inl (record {
   first_bad = bad;
   disk_stays = unused;
   status = is;
-  told = told;
+  written = told;
 })
 
 -- what decides the status of a report, where it is that of a fault of the disk
@@ -372,7 +374,8 @@ halted_so None is = absurd (cc)
 halted_so (Some (halt.DiskFull at need limit)) is = absurd (cc)
 halted_so (Some halt.DiskFault) is = refl
 
-pub run_fault_rose : (way : Way) (run : Run) (input : Change) (disk : DiskChange) (due : Status) (output : List ℕ)
+pub run_fault_rose : (way : Way) (run : RunOptions) (input : Change) (disk : DiskChange) (due : Status) (output : List
+    ℕ)
     → InputDue way run input disk due output → due ≡ status.DiskFault
     → Rose disk.faults_before disk.faults_after ⊎ Rose disk.read_faults_before disk.read_faults_after
 run_fault_rose way run input disk due output (inl failed) e =
@@ -414,7 +417,7 @@ damaged_untold script config moments report t end.DiskFault may is = absurd (cc)
 damaged_untold script config moments report t (end.Damaged home at word) may is = may.0 refl
 damaged_untold script config moments report t end.Halted may is = absurd (cc)
 
-pub run_undamaged : (way : Way) (run : Run) (input : Change) (disk : DiskChange) (due : Status) (output : List ℕ)
+pub run_undamaged : (way : Way) (run : RunOptions) (input : Change) (disk : DiskChange) (due : Status) (output : List ℕ)
     → InputDue way run input disk due output → due ≡ status.Damaged → IsSome disk.before → ⊥
 run_undamaged way run input disk due output (inl failed) e tells =
     omega (arith, ap exit_number failed.status, ap exit_number e)

@@ -16,7 +16,7 @@ use Rattle.melt_model.specs.declared.reports.Report.{Report}
 use Rattle.melt_top.specs.declared.command.Command.{Command}
 use Rattle.melt_top.specs.declared.command.Command.TheVariants.{Gen, Step, Threads}
 use Rattle.melt_top.specs.declared.command.Recipe.{Recipe}
-use Rattle.melt_top.specs.declared.command.Run.{Run}
+use Rattle.melt_top.specs.declared.command.RunOptions.{RunOptions}
 use Rattle.melt_gen.specs.declared.workload.Workload.{Workload}
 use Rattle.melt_gen.specs.declared.workload.Workload.TheVariants as workload
 use Rattle.melt_top.specs.Parses.{gen_names, run_names, step_names}
@@ -63,7 +63,7 @@ texts_of given = record {
   log = is_given given (codes "log");
 }
 
-abbrev pub run_of : Given → Option Run
+abbrev pub run_of : Given → Option RunOptions
 run_of given = option_map (λ config. record { config = config; texts = texts_of given }) (config_of given)
 
 -- a run by real threads stores no history that could be written
@@ -74,7 +74,7 @@ plain_texts_of given = record {
   log = false;
 }
 
-abbrev pub threads_run : Given → Option Run
+abbrev pub threads_run : Given → Option RunOptions
 threads_run given = option_map (λ config. record { config = config; texts = plain_texts_of given }) (config_of given)
 
 -- the number that an option has to give

@@ -16,7 +16,7 @@ use Rattle.melt_top.specs.Command.{halted_by_full, status_of}
 use Rattle.melt_top.specs.declared.command.Command.{Command}
 use Rattle.melt_top.specs.declared.command.Command.TheVariants.{Gen, Step, Threads}
 use Rattle.melt_top.specs.declared.command.Recipe.{Recipe}
-use Rattle.melt_top.specs.declared.command.Run.{Run}
+use Rattle.melt_top.specs.declared.command.RunOptions.{RunOptions}
 use Rattle.melt_gen.specs.Workloads.{generated}
 use Rattle.melt_trace.specs.Grammar.{canonical}
 use Rattle.melt_top.specs.declared.status.Status.{Status}
@@ -110,7 +110,7 @@ pub record TraceRefused (bytes : List ℕ) (disk : DiskChange) (due : Status) (o
   pub first_bad : script_of bytes ≡ Err (line, reason)
   pub disk_stays : IsUnused disk
   pub status : due ≡ status.Trace
-  pub told : output ≡ refused_text line reason
+  pub written : output ≡ refused_text line reason
 
 -- what a run stores of its history: all, if it is by the written order and that is to be written; else nothing
 abbrev pub stored_by : Way → Texts → List Entry → List Entry
@@ -122,7 +122,7 @@ stored_by way.Running texts h = []
 -- has each entry of it, and is written; and what the run left of its heap stands for this history, over the words that
 -- the disk has then. The disk's counts tell of each thread that could not read it, and of a run that it halted by a
 -- fault; so where none of them rose, no thread ended by the disk, but for one that was full.
-pub record RunDue (way : Way) (script : Script) (run : Run) (disk : DiskChange) (due : Status) (output : List ℕ)
+pub record RunDue (way : Way) (script : Script) (run : RunOptions) (disk : DiskChange) (due : Status) (output : List ℕ)
     : Type 0 where
   pub report : Report
   pub heap : Option Heap
@@ -135,20 +135,20 @@ pub record RunDue (way : Way) (script : Script) (run : Run) (disk : DiskChange) 
   pub complete : ServedWell disk
       → (t : ℕ) (r : ThreadReport) → slice_get report.threads t ≡ Some r → IsServedEnd report.halt r.end
   pub status : due ≡ status_of report
-  pub told : output ≡ text (record { report = report; texts = run.texts })
+  pub written : output ≡ text (record { report = report; texts = run.texts })
 
 -- the bytes are a trace, and it was run
-pub record TraceRan (way : Way) (run : Run) (bytes : List ℕ) (disk : DiskChange) (due : Status) (output : List ℕ)
+pub record TraceRan (way : Way) (run : RunOptions) (bytes : List ℕ) (disk : DiskChange) (due : Status) (output : List ℕ)
     : Type 0 where
   pub script : Script
   pub says : script_of bytes ≡ Ok script
   pub ran : RunDue way script run disk due output
 
 -- what is due for the bytes of a trace
-abbrev pub TraceDue : Way → Run → List ℕ → DiskChange → Status → List ℕ → Type 0
+abbrev pub TraceDue : Way → RunOptions → List ℕ → DiskChange → Status → List ℕ → Type 0
 TraceDue way run bytes disk due output = TraceRefused bytes disk due output ⊎ TraceRan way run bytes disk due output
 
--- the reading failed, behind these bytes
+-- the reading failed, after these bytes
 pub record CouldNotRead (input : Change) (disk : DiskChange) (due : Status) (output : List ℕ) : Type 0 where
   pub bytes : List ℕ
   pub front : TakesFront input.before bytes input.after
@@ -156,17 +156,18 @@ pub record CouldNotRead (input : Change) (disk : DiskChange) (due : Status) (out
   pub fault : Rose input.faults_before input.faults_after
   pub disk_stays : IsUnused disk
   pub status : due ≡ status.ReadFault
-  pub told : output ≡ read_fault_text
+  pub written : output ≡ read_fault_text
 
 -- the input was read
-pub record CouldRead (way : Way) (run : Run) (input : Change) (disk : DiskChange) (due : Status) (output : List ℕ)
+pub record CouldRead (way : Way) (run : RunOptions) (input : Change) (disk : DiskChange) (due : Status) (output : List
+    ℕ)
     : Type 0 where
   pub bytes : List ℕ
   pub read : WasRead input bytes
   pub trace : TraceDue way run bytes disk due output
 
 -- what `step` and `run` have to write and to answer
-abbrev pub InputDue : Way → Run → Change → DiskChange → Status → List ℕ → Type 0
+abbrev pub InputDue : Way → RunOptions → Change → DiskChange → Status → List ℕ → Type 0
 InputDue way run input disk due output = CouldNotRead input disk due output ⊎ CouldRead way run input disk due output
 
 -- the words mean nothing: nothing is read
@@ -174,7 +175,7 @@ pub record NotUnderstood (input : Change) (disk : DiskChange) (due : Status) (ou
   pub untouched : IsUntouched input
   pub disk_stays : IsUnused disk
   pub status : due ≡ status.Usage
-  pub told : output ≡ usage_text
+  pub written : output ≡ usage_text
 
 -- the script that is made
 abbrev pub script_made : Recipe → Script
@@ -188,13 +189,13 @@ IsTooLong recipe = 1048576 < operation_count (script_made recipe).programs
 pub record MadeNone (recipe : Recipe) (due : Status) (output : List ℕ) : Type 0 where
   pub many : IsTooLong recipe
   pub status : due ≡ status.Usage
-  pub told : output ≡ usage_text
+  pub written : output ≡ usage_text
 
 -- any other trace is written
 pub record MadeTrace (recipe : Recipe) (due : Status) (output : List ℕ) : Type 0 where
   pub few : IsTooLong recipe → ⊥
   pub status : due ≡ status.Done
-  pub told : output ≡ canonical (script_made recipe)
+  pub written : output ≡ canonical (script_made recipe)
 
 -- what `gen` has to write and to answer, and it reads nothing
 pub record GenDue (recipe : Recipe) (input : Change) (disk : DiskChange) (due : Status) (output : List ℕ)

@@ -23,7 +23,7 @@ use Rattle.melt_model.specs.declared.reports.Report.{Report}
 use Rattle.melt_stats.specs.Table.{table_text}
 use Rattle.melt_top.specs.declared.text.Texts.{Texts}
 
--- a word, and a number right behind it
+-- a word, and a number right after it
 abbrev pub with_digits : List ℕ → ℕ → List ℕ
 with_digits word n = word ++ decimal n
 
@@ -67,7 +67,7 @@ halt_line (Some halt.DiskFault) = line (codes "halt disk-fault") []
 abbrev pub thread_text : Texts → ℕ → ThreadReport → List ℕ
 thread_text texts t r = line (codes "thread") (t ∷ []) ++ reply_lines texts r.replies ++ end_line r.end
 
--- thread t and those behind it
+-- thread t and those after it
 abbrev pub thread_lines : Texts → ℕ → List ThreadReport → List ℕ
 thread_lines texts t [] = []
 thread_lines texts t (r ∷ rs) = thread_text texts t r ++ thread_lines texts (t + 1) rs

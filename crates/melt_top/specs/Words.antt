@@ -1,4 +1,4 @@
--- How the words behind a command are read: options in any order, each once at most. An option has a value, or is a
+-- How the words after a command are read: options in any order, each once at most. An option has a value, or is a
 -- flag.
 use Rattle.std.specs.Prelude.{ℕ, Bool, not, ◌||◌, if◌then◌else◌, List, [], ◌∷◌, ◌++◌, find, Option, None}
 use Rattle.std.specs.Prelude.{Some, option_and_then, option_map, codes}
@@ -34,7 +34,7 @@ abbrev pub with_given : Given → (name : List ℕ) → (value : List ℕ) → O
 with_given given name value =
     if is_given given name then None else Some (record { given = given ++ (name, value) ∷ []; waits = None })
 
--- the option's word has the value too, behind `=`, or the next word is the value
+-- the option's word has the value too, after `=`, or the next word is the value
 abbrev pub with_name : Given → (name : List ℕ) → (value : Option (List ℕ)) → Option Reading
 with_name given name (Some value) = with_given given name value
 with_name given name None = Some (record { given = given; waits = Some name })
@@ -69,7 +69,7 @@ read_from names reading [] = ended reading.given reading.waits
 read_from names reading (word ∷ words) =
     option_and_then (λ next. read_from names next words) (with_next_word names reading.given reading.waits word)
 
--- nothing may stand behind the options, so no word parts them from others
+-- nothing may stand after the options, so no word parts them from others
 abbrev pub parts_options : List ℕ → Bool
 parts_options word = bytes_eq word (codes "--")
 

@@ -55,16 +55,16 @@ const THREADS: Limits = Limits { low: 1, high: 8 };
 #[derive(Clone, Copy, Debug, PartialEq, Eq)]
 pub enum Command {
     /// Runs a trace by its written order.
-    Step(Run),
+    Step(RunOptions),
     /// Runs a trace by real threads.
-    Threads(Run),
+    Threads(RunOptions),
     /// Makes a trace.
     Gen(Recipe),
 }
 
 /// What a run is given beside its trace, and which of its texts are written.
 #[derive(Clone, Copy, Debug, PartialEq, Eq)]
-pub struct Run {
+pub struct RunOptions {
     pub config: Config,
     pub texts: Texts,
 }
@@ -147,21 +147,21 @@ fn read_plain_texts(options: &ArgMatches<'_>) -> Texts
     }
 }
 
-fn read_run(options: &ArgMatches<'_>) -> Option<Run>
+fn read_run(options: &ArgMatches<'_>) -> Option<RunOptions>
     ensures value { (given : Given) → Has step_names options.now given → result ≡ run_of given }
     ensures ranges { IfSome result (λ run. InRanges run.config) }
 {
-    Some(Run {
+    Some(RunOptions {
         config: read_config(options)?,
         texts: read_texts(options),
     })
 }
 
-fn read_threads(options: &ArgMatches<'_>) -> Option<Run>
+fn read_threads(options: &ArgMatches<'_>) -> Option<RunOptions>
     ensures value { (given : Given) → Has run_names options.now given → result ≡ threads_run given }
     ensures ranges { IfSome result (λ run. InRanges run.config) }
 {
-    Some(Run {
+    Some(RunOptions {
         config: read_config(options)?,
         texts: read_plain_texts(options),
     })
@@ -235,7 +235,7 @@ fn gen_command(alloc: Global, words: &[String]) -> Result<Option<Command>, NoMem
     }
 }
 
-/// The command that the words mean, or none: its name, and behind it its options, each at most once with its value.
+/// The command that the words mean, or none: its name, and after it its options, each at most once with its value.
 pub fn command_of(alloc: Global, words: &[String]) -> Result<Option<Command>, NoMemory>
     ensures value { IfOk result (λ command. command ≡ meant (map string_bytes words.now)) }
     ensures ranges { IfOk result (λ command. IfSome command HasRanges) }

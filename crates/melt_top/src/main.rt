@@ -18,7 +18,7 @@ use std::rt::Env;
 use std::{env, io};
 use top::melt;
 
-/// The words behind the program's name. A word that is no text means nothing, and so do all of them then.
+/// The words after the program's name. A word that is no text means nothing, and so do all of them then.
 fn words<R: Env + AllocGlobal>(rt: &R) -> Result<Vec<String>, AllocError> {
     match env::args(rt) {
         Ok(all) => all.skip(1).collect(rt.alloc()),

@@ -1,4 +1,4 @@
-//! The words behind a command, as the parser of command lines reads them.
+//! The words after a command, as the parser of command lines reads them.
 ghost use Rattle.std.specs.Prelude.{◌≡◌, [], codes, drop, length, ◌<◌, map, string_bytes, IfOk};
 ghost use Rattle.std.specs.Bool.{OnFalse};
 ghost use Rattle.std.specs.List.{list_any, AllByRecursion};
@@ -38,7 +38,7 @@ impl From<AllocError> for WordsRefusal {
     }
 }
 
-/// Whether some word is `--`. Nothing can stand behind the options that it would part from them.
+/// Whether some word is `--`. Nothing can stand after the options that it would part from them.
 fn has_dashes(words: &[String]) -> bool
     ensures value { result ≡ list_any parts_options (map string_bytes words.now) }
     ensures words { OnFalse result (AllByRecursion IsWord (map string_bytes words.now)) }
@@ -136,7 +136,7 @@ fn parser_for<'a>(alloc: Global, verb: Verb) -> Result<Command<'a>, AllocError>
     }
 }
 
-/// What the words behind the first one give to the options of this command.
+/// What the words after the first one give to the options of this command.
 pub fn options_given<'a>(
     alloc: Global,
     verb: Verb,

@@ -3,7 +3,7 @@ mod faults;
 mod given;
 mod threads;
 
-use crate::command::{Command, Run, command_of};
+use crate::command::{Command, RunOptions, command_of};
 use crate::status::{Status, status_for};
 use crate::text::{Texts, report_text};
 use crate::top::melt;
@@ -123,9 +123,9 @@ fn written<R: Threads + Sync + AllocGlobal>(
 fn configured<R: AllocGlobal>(rt: &R, line: &str) -> Result<Option<Config>, Fail> {
     let words = words_of(rt.alloc(), line)?;
     match command_of(rt.alloc(), &words)? {
-        Some(Command::Step(Run { config, .. }) | Command::Threads(Run { config, .. })) => {
-            Ok(Some(config))
-        }
+        Some(
+            Command::Step(RunOptions { config, .. }) | Command::Threads(RunOptions { config, .. }),
+        ) => { Ok(Some(config)) }
         Some(Command::Gen(_)) | None => Ok(None),
     }
 }

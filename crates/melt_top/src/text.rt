@@ -31,7 +31,7 @@ pub struct Texts {
     pub log: bool,
 }
 
-/// Adds a word, and a number right behind it.
+/// Adds a word, and a number right after it.
 fn push_numbered(out: &mut Vec<u8>, word: &[u8], number: u64) -> Result<(), NoMemory>
     ensures { OnOk result (out.new.items ≡ out.old.items ++ with_digits word.now number) }
 {
@@ -90,16 +90,16 @@ fn push_reply(out: &mut Vec<u8>, reply: Reply)
 }
 
 /// Adds the lines of replies to a text that has room for them.
-// (the text is owned, since the place of one that is behind a reference is read again behind each byte; and the replies
+// (the text is owned, since the place of one that is behind a reference is read again after each byte; and the replies
 // are taken from the front, since the place of one that is counted is computed anew each time)
 fn with_lines(mut text: Vec<u8>, replies: &[Reply]) -> Vec<u8>
     requires { vec_len text + MAX_LINE * length replies.now ≤ vec_capacity text }
     ensures { result.items ≡ text.items ++ flat_map reply_line replies.now }
 {
     let mut rest = replies;
-    while let Some((reply, behind)) = rest.split_first() {
+    while let Some((reply, after)) = rest.split_first() {
         push_reply(&mut text, *reply);
-        rest = behind;
+        rest = after;
     }
     text
 }

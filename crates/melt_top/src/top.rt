@@ -13,7 +13,7 @@ ghost use Rattle.melt_top.specs.Headline.{Due, InputDue, IsUsage, MadeNone, Made
 ghost use Rattle.melt_top.specs.Headline.{CanBeDone, IsBuilt, IsComplete, NothingFailed, Outcome, ReadAtMost};
 ghost use Rattle.melt_top.specs.Headline.{change, disk_change, stored_by};
 
-use crate::command::{Command, Recipe, Run, command_of};
+use crate::command::{Command, Recipe, RunOptions, command_of};
 use crate::status::{Status, status_for};
 use crate::text::report_text;
 use melt_disk::StaleSpace;
@@ -67,7 +67,7 @@ fn run_by<X: Threads + Sync, D: StaleDisk, G: Gate + Sync>(
     rt: &X,
     alloc: Global,
     way: Way,
-    run: Run,
+    run: RunOptions,
     trace: &Trace,
     space: &mut StaleSpace<'_, D>,
     gate: &G,
@@ -93,7 +93,7 @@ fn run_answer<X: Threads + Sync, D: StaleDisk, G: Gate + Sync>(
     rt: &X,
     alloc: Global,
     way: Way,
-    run: Run,
+    run: RunOptions,
     trace: &Trace,
     disk: &mut D,
     gate: &G,
@@ -127,7 +127,7 @@ fn trace_answer<X: Threads + Sync, D: StaleDisk, G: Gate + Sync>(
     rt: &X,
     alloc: Global,
     way: Way,
-    run: Run,
+    run: RunOptions,
     bytes: Vec<u8>,
     disk: &mut D,
     gate: &G,
@@ -149,7 +149,7 @@ fn input_answer<X: Threads + Sync, S: Source, D: StaleDisk, G: Gate + Sync>(
     rt: &X,
     alloc: Global,
     way: Way,
-    run: Run,
+    run: RunOptions,
     input: &mut S,
     disk: &mut D,
     gate: &G,
@@ -214,7 +214,7 @@ fn answer_to<X: Threads + Sync, S: Source, D: StaleDisk, G: Gate + Sync>(
     }
 }
 
-/// Runs the program on the words that stand behind its name, and answers how it ended. What is written
+/// Runs the program on the words that stand after its name, and answers how it ended. What is written
 /// is made whole before the first byte of it goes out.
 pub fn melt<X: Threads + Sync, S: Source, K: Sink, D: StaleDisk, G: Gate + Sync>(
     rt: &X,

@@ -150,7 +150,7 @@ split_last c (b ∷ field) apart e =
     (apart b (plain_byte b parts.0))
     ∙ ap (onto_first b) (split_last c field apart parts.1)
 
--- the numbers behind a word, one space before each
+-- the numbers after a word, one space before each
 abbrev pub spaced : List ℕ → List ℕ
 spaced ns = flat_map (λ n. 32 ∷ decimal n) ns
 

@@ -15,8 +15,8 @@ use Rattle.melt_trace.specs.declared.script.Item.{Item}
 use Rattle.melt_trace.specs.declared.script.Item.TheVariants as item
 use Rattle.melt_trace.specs.declared.language.Word.{Word}
 use Rattle.melt_trace.specs.declared.language.Word.TheVariants as word
-use Rattle.melt_trace.specs.declared.language.Stage.{Stage}
-use Rattle.melt_trace.specs.declared.language.Stage.TheVariants as stage
+use Rattle.melt_trace.specs.declared.language.Expected.{Expected}
+use Rattle.melt_trace.specs.declared.language.Expected.TheVariants as stage
 use Rattle.melt_trace.specs.Script.{Script, expand}
 use Rattle.melt_trace.specs.Grammar.{line, op_line, item_line, program_lines, canonical, InRange}
 use Rattle.melt_trace.specs.Language.{max_bytes, Place, first_place, global, ranges_of, numbers, operation_count}
@@ -30,7 +30,7 @@ use Rattle.melt_trace.proofs.Again.{is_plain, spaced, AreWords, split_line, line
 
 -- ---- texts that lead from one place to another
 
--- what stands behind the text is read from the second place
+-- what stands after the text is read from the second place
 abbrev Leads : Place → List ℕ → Place → Type 0
 Leads place text next = (n : ℕ) (rest : List ℕ) → (m : ℕ)
     × (script_from n place (lines_of (text ++ rest)) ≡ script_from m next (lines_of rest))
@@ -221,20 +221,21 @@ op_line_some (op.Copy dst src) = omega arith
 op_line_some (op.Drop r) = omega arith
 op_line_some op.Collect = omega arith
 
-pub shorter_behind : (o : Op) (bytes rest : List ℕ) → bytes ≡ op_line o ++ rest → length rest < length bytes
-shorter_behind o bytes rest e = omega (arith, ap length e, length-append (op_line o) rest, op_line_some o)
+pub shorter_after : (o : Op) (bytes rest : List ℕ) → bytes ≡ op_line o ++ rest → length rest < length bytes
+shorter_after o bytes rest e = omega (arith, ap length e, length-append (op_line o) rest, op_line_some o)
 
 pub operation_taken : (place next : Place) (o : Op) (bytes rest : List ℕ) → IsOperationLine place o bytes rest
     → after_operation place (Some o) ≡ Ok next
     → (n : ℕ) → script_from n place (lines_of bytes) ≡ script_from (n + 1) next (lines_of rest)
 operation_taken place next o bytes rest h e n =
-    let behind : Stage → Place = λ s.
+    let later : Expected → Place = λ s.
     placed s place.threads place.script (place.items ++ item.Op o ∷ []) (with_operation place.blocks) in
-    let leads : LeadsOn place (op_line o) (behind place.stage) =
-    subst (λ (s : Stage). LeadsOn (placed s place.threads place.script place.items place.blocks) (op_line o) (behind s))
+    let leads : LeadsOn place (op_line o) (later place.stage) =
+    subst (λ (s : Expected). LeadsOn (placed s place.threads place.script place.items place.blocks) (op_line o) (later
+    s))
     (sym h.inside) (operation_leads place.threads place.script place.items place.blocks o h.few h.range) in
     ap (λ (b : List ℕ). script_from n place (lines_of b)) h.text ∙ leads n rest
-    ∙ ap (λ (p : Place). script_from (n + 1) p (lines_of rest)) (same_Ok (behind place.stage) next e)
+    ∙ ap (λ (p : Place). script_from (n + 1) p (lines_of rest)) (same_Ok (later place.stage) next e)
 
 repeat_leads : (threads : ℕ) (script : Script) (items : List Item) (blocks : List Bool) (n : ℕ) → 0 < n → n ≤ 1048576
     → length blocks < 4 → Leads (inside threads script items blocks) (line (codes "repeat") (n ∷ []))
@@ -254,7 +255,7 @@ end_leads threads script items blocks =
     (record { some = omega arith; plain = refl; shown = refl; words = tt })
     (worded (inside threads script items (true ∷ blocks)) _ word.End [] refl tt tt refl)
 
--- one item, and those behind it
+-- one item, and those after it
 then_items : (from : Place) (i : Item) (items : List Item) (next : List Bool)
     → Leads from (item_line i) (record from { items = from.items ++ i ∷ []; blocks = next })
     → Leads (record from { items = from.items ++ i ∷ []; blocks = next }) (flat_map item_line items)
@@ -295,7 +296,7 @@ items_lead threads script before (item.End ∷ items) (true ∷ blocks) few h =
 -- ---- programs
 
 -- where a program may begin, a line is read by its first word
-standing_fields : (s : Stage) (place : Place) (blocks : List Bool) (first : List ℕ) (fields : List (List ℕ))
+standing_fields : (s : Expected) (place : Place) (blocks : List Bool) (first : List ℕ) (fields : List (List ℕ))
     {next : Place} → fits s blocks word.Thread ≡ true → after_word place (word_of first) fields ≡ Ok next
     → after_fields place s (first ∷ fields) ≡ Ok next
 standing_fields stage.Version place blocks first fields stands e = absurd cc
@@ -306,8 +307,8 @@ standing_fields stage.Inside place blocks first fields stands e = e
 standing_fields stage.Between place blocks first fields stands e = e
 standing_fields stage.Over place blocks first fields stands e = absurd cc
 
--- a program, and what is wanted behind it
-program_leads : (s : Stage) {after : Stage} (threads : ℕ) (script : Script) (items : List Item)
+-- a program, and what is wanted after it
+program_leads : (s : Expected) {after : Expected} (threads : ℕ) (script : Script) (items : List Item)
     → fits s [] word.Thread ≡ true → script.globals ≤ 64 → length script.programs < 8
     → AreItems script.globals [] items → operation_count (script.programs ++ items ∷ []) ≤ 1048576
     → cond (eqb (length (script.programs ++ items ∷ [])) threads) stage.Over stage.Between ≡ after
@@ -330,7 +331,7 @@ program_leads s {after} threads script items stands few small h count is =
     leads_line whole next (codes "done") [] (record { some = omega arith; plain = refl; shown = refl; words = tt })
     (worded whole next word.Done [] refl tt tt
     (rw (le-leb (operation_count (script.programs ++ items ∷ [])) 1048576 count)
-    (ap (λ (k : Stage). Ok (placed k threads (with_program script items) [] [])) is)))
+    (ap (λ (k : Expected). Ok (placed k threads (with_program script items) [] [])) is)))
     in
     leads_both (placed s threads script [] []) whole next
     (line (codes "thread") (t ∷ []) ++ flat_map item_line items) (line (codes "done") [])
@@ -344,7 +345,7 @@ scripted globals orders programs = record { globals = globals; orders = orders; 
 count-front : (xs ys : List (List Item)) → operation_count xs ≤ operation_count (xs ++ ys)
 count-front xs ys = omega (arith, sum_by-append (λ (items : List Item). length (expand items)) xs ys)
 
-programs_lead : (after : List (List Item)) (program : List Item) (before : List (List Item)) (s : Stage)
+programs_lead : (after : List (List Item)) (program : List Item) (before : List (List Item)) (s : Expected)
     {threads globals : ℕ} (orders : List (ℕ × ℕ))
     → fits s [] word.Thread ≡ true → globals ≤ 64 → threads ≤ 8 → threads ≡ length before + length (program ∷ after)
     → AllByRecursion (AreItems globals []) (program ∷ after) → operation_count (before ++ program ∷ after) ≤ 1048576

@@ -14,8 +14,8 @@ use Rattle.melt_trace.specs.declared.script.Item.{Item}
 use Rattle.melt_trace.specs.declared.script.Item.TheVariants as item
 use Rattle.melt_trace.specs.declared.language.Word.{Word}
 use Rattle.melt_trace.specs.declared.language.Word.TheVariants as word
-use Rattle.melt_trace.specs.declared.language.Stage.{Stage}
-use Rattle.melt_trace.specs.declared.language.Stage.TheVariants as stage
+use Rattle.melt_trace.specs.declared.language.Expected.{Expected}
+use Rattle.melt_trace.specs.declared.language.Expected.TheVariants as stage
 use Rattle.melt_trace.specs.Script.{Script}
 use Rattle.melt_trace.specs.Grammar.{InRange}
 use Rattle.melt_trace.specs.Language.{max_bytes, Range, Place, first_place, within, checked, numbers_with, numbers_in}
@@ -168,7 +168,7 @@ all_push : {X : Type 0} (P : X → Type 0) (xs : List X) (x : X) → AllByRecurs
 all_push P [] x h p = (p, tt)
 all_push P (y ∷ xs) x h p = (h.0, all_push P xs x h.1 p)
 
--- the lines of the open program, and whatever may stand behind them
+-- the lines of the open program, and whatever may stand after them
 abbrev Opens : ℕ → List Item → List Bool → Type 0
 Opens globals items blocks = (rest : List Item) → AreItems globals blocks rest → AreItems globals [] (items ++ rest)
 
@@ -182,7 +182,7 @@ record IsBody (threads : ℕ) (script : Script) : Type 0 where
   programs : AllByRecursion (AreItems script.globals []) script.programs
   count : operation_count script.programs ≤ 1048576
 
-abbrev IsAt : Stage → ℕ → Script → List Item → List Bool → Type 0
+abbrev IsAt : Expected → ℕ → Script → List Item → List Bool → Type 0
 IsAt stage.Version threads script items blocks = Unit {0}
 IsAt stage.Threads threads script items blocks = Unit {0}
 IsAt stage.Globals threads script items blocks = (0 < threads) × (threads ≤ 8)
@@ -195,7 +195,7 @@ IsAt stage.Over threads script items blocks = IsBody threads script × (length s
 abbrev IsPlace : Place → Type 0
 IsPlace place = IsAt place.stage place.threads place.script place.items place.blocks
 
-abbrev pub placed : Stage → ℕ → Script → List Item → List Bool → Place
+abbrev pub placed : Expected → ℕ → Script → List Item → List Bool → Place
 placed s threads script items blocks =
     record { stage = s; threads = threads; script = script; items = items; blocks = blocks }
 
@@ -254,11 +254,11 @@ end_kept threads script items (true ∷ blocks) next h e =
     (h.0, h.1, opens_more script.globals items (true ∷ blocks) (with_operation blocks) item.End h.2 (λ rest r. r))
 
 -- the next program, or the end
-behind_kept : (b : Bool) (threads : ℕ) (script : Script) → eqb (length script.programs) threads ≡ b
+after_kept : (b : Bool) (threads : ℕ) (script : Script) → eqb (length script.programs) threads ≡ b
     → IsBody threads script → length script.programs ≤ threads
     → IsPlace (placed (cond b stage.Over stage.Between) threads script [] [])
-behind_kept true threads script e body le = (body, eqb-true _ _ e)
-behind_kept false threads script e body le =
+after_kept true threads script e body le = (body, eqb-true _ _ e)
+after_kept false threads script e body le =
     let apart : length script.programs ≡ threads → ⊥ = eqb-false _ _ e in
     (body, omega arith)
 
@@ -282,10 +282,10 @@ done_kept threads script items next h e =
     }
     in
     subst IsPlace (same_Ok result next found.1)
-    (behind_kept (eqb (length whole.programs) threads) threads whole refl is_body
+    (after_kept (eqb (length whole.programs) threads) threads whole refl is_body
     (omega (arith, length_push script.programs items, h.1)))
 
-thread_kept : (s : Stage) (threads : ℕ) (script : Script) (items : List Item) (blocks : List Bool) (next : Place)
+thread_kept : (s : Expected) (threads : ℕ) (script : Script) (items : List Item) (blocks : List Bool) (next : Place)
     → IsBody threads script → length script.programs < threads
     → after_thread (placed s threads script items blocks) ≡ Ok next → IsPlace next
 thread_kept s threads script items blocks next body few e =
@@ -390,7 +390,7 @@ word_kept : (place : Place) (w : Option Word) (fields : List (List ℕ)) {next :
 word_kept place None fields kept e = absurd cc
 word_kept place (Some w) fields kept e = kept w e
 
-fields_kept : (s : Stage) (threads : ℕ) (script : Script) (items : List Item) (blocks : List Bool)
+fields_kept : (s : Expected) (threads : ℕ) (script : Script) (items : List Item) (blocks : List Bool)
     (fields : List (List ℕ)) {next : Place} → IsAt s threads script items blocks
     → after_fields (placed s threads script items blocks) s fields ≡ Ok next → IsPlace next
 fields_kept stage.Version threads script items blocks fields {next} h e =
@@ -445,7 +445,7 @@ line_kept place bytes next h e =
 
 -- ---- a whole trace
 
-ended_kept : (n : ℕ) (s : Stage) (threads : ℕ) (script : Script) (items : List Item) (blocks : List Bool)
+ended_kept : (n : ℕ) (s : Expected) (threads : ℕ) (script : Script) (items : List Item) (blocks : List Bool)
     {whole : Script} → IsAt s threads script items blocks
     → ◌≡◌ {A = Result Script (ℕ × ℕ)} (script_at_end n s script) (Ok whole) → IsScript whole
 ended_kept n stage.Over threads script items blocks {whole} h e =

@@ -8,7 +8,7 @@ use Rattle.std.proofs.lemmas.Fmt.{decimal_digit, decimal_step}
 pub spelled_one : (d : ℕ) (bytes rest : List ℕ) → d < 10 → bytes ≡ (48 + d) ∷ rest → bytes ≡ decimal d ++ rest
 spelled_one d bytes rest lt is = is ∙ ap (λ (ds : List ℕ). ds ++ rest) (sym (decimal_digit d lt))
 
--- a digit behind a number other than 0 makes a number of both
+-- a digit after a number other than 0 makes a number of both
 decimal_more : (n d : ℕ) → 0 < n → d < 10 → 10 * n + d < 2 ^ 64 → decimal (10 * n + d) ≡ decimal n ++ (48 + d) ∷ []
 decimal_more n d some lt fits =
     let front : (10 * n + d) / 10 ≡ n = omega arith in

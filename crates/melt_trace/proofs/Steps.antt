@@ -6,8 +6,8 @@ use Rattle.std.proofs.lemmas.List.{map_push}
 use Rattle.std.proofs.lemmas.List.Sums.{sum_by_push}
 use Rattle.melt_trace.specs.declared.script.Item.{Item}
 use Rattle.melt_trace.specs.declared.script.Item.TheVariants as item
-use Rattle.melt_trace.specs.declared.language.Stage.{Stage}
-use Rattle.melt_trace.specs.declared.language.Stage.TheVariants as stage
+use Rattle.melt_trace.specs.declared.language.Expected.{Expected}
+use Rattle.melt_trace.specs.declared.language.Expected.TheVariants as stage
 use Rattle.melt_trace.specs.declared.parser.draft.Block.{Block}
 use Rattle.melt_trace.specs.Script.{Script, expand}
 use Rattle.melt_trace.specs.Language.{Place, operation_count, with_operation, with_program, after_done, after_end}
@@ -15,11 +15,11 @@ use Rattle.melt_trace.specs.Language.{after_repeat, has_open}
 use Rattle.melt_trace.specs.Drafts.{blocks_of, capped, IsTallied}
 use Rattle.melt_trace.proofs.Tally.{tallied_done}
 
-abbrev pub at_place : Stage → ℕ → Script → List Item → List Bool → Place
+abbrev pub at_place : Expected → ℕ → Script → List Item → List Bool → Place
 at_place s threads script items blocks =
     record { stage = s; threads = threads; script = script; items = items; blocks = blocks }
 
-pub same_place : (s : Stage) (threads : ℕ) (script : Script) {items others : List Item} {blocks around : List Bool}
+pub same_place : (s : Expected) (threads : ℕ) (script : Script) {items others : List Item} {blocks around : List Bool}
     → items ≡ others → blocks ≡ around
     → ◌≡◌ {A = Result Place ℕ} (Ok (at_place s threads script items blocks))
     (Ok (at_place s threads script others around))
@@ -92,13 +92,14 @@ pub programs_pushed : {V : Type 0} (f : V → List Item) (new old : List V) (p :
 programs_pushed f new old p items is same =
     ap (map f) is ∙ map_push f old p ∙ ap (λ (i : List Item). map f old ++ i ∷ []) same
 
-pub behind_done : {s other : Stage} (threads globals : ℕ) (orders : List (ℕ × ℕ)) {programs others : List (List Item)}
+pub place_after_done : {s other : Expected} (threads globals : ℕ) (orders : List (ℕ
+    × ℕ)) {programs others : List (List Item)}
     {items : List Item} {blocks : List Bool} → other ≡ s → others ≡ programs → items ≡ [] → blocks ≡ []
     → ◌≡◌ {A = Result Place ℕ}
     (Ok (at_place s threads (record { globals = globals; orders = orders; programs = programs }) [] []))
     (Ok (at_place other threads (record { globals = globals; orders = orders; programs = others }) items blocks))
-behind_done {s} threads globals orders {programs} {others} {items} {blocks} e f g h =
-    sym (ap (λ (k : Stage). Ok (at_place k threads (record { globals = globals; orders = orders; programs = others })
+place_after_done {s} threads globals orders {programs} {others} {items} {blocks} e f g h =
+    sym (ap (λ (k : Expected). Ok (at_place k threads (record { globals = globals; orders = orders; programs = others })
     items blocks)) e
     ∙ ap (λ (k : List (List Item)). Ok (at_place s threads (record { globals = globals; orders = orders; programs = k })
     items blocks)) f

@@ -310,7 +310,7 @@ at_end globals items blocks at way is =
     (subst (λ (r : List Item). AreOpen globals items blocks way.marks (levels r)) e way.opened)
     way.fresh
 
--- ---- the first line, and behind the last one
+-- ---- the first line, and after the last one
 
 pub at_first : (globals : ℕ) (items : List Item) → AreItems globals [] items → IsUnderway globals items [] 0
 at_first globals items are = record { marks = []; lines = are; opened = refl; fresh = λ yes. tt }
@@ -347,12 +347,12 @@ pub found_line : (items : List Item) (at : ℕ) (x y : Item) → at < length ite
     → slice_get items at ≡ Some y
 found_line items at x y within is same = slice_get_read items (length items) at x refl within is ∙ ap Some same
 
-pub none_behind : (before : Ahead) (globals : ℕ) (items : List Item) (blocks : List Block) (at : ℕ)
+pub none_after : (before : Ahead) (globals : ℕ) (items : List Item) (blocks : List Block) (at : ℕ)
     → IsAsBefore before globals items blocks at → length items ≤ at → before.operations ≡ []
-none_behind before globals items blocks at way past =
+none_after before globals items blocks at way past =
     sym way.left ∙ at_last globals items blocks at way.underway (slice_get_past items at past)
 
--- what a cursor gives, and what is left behind it
+-- what a cursor gives, and what is left after it
 pub record Gives (before : Ahead) (globals : ℕ) (items : List Item) (blocks : List Block) (at : ℕ) (o : Op) : Type 0
   where
     pub operation : Some o ≡ slice_get before.operations 0
@@ -360,10 +360,10 @@ pub record Gives (before : Ahead) (globals : ℕ) (items : List Item) (blocks : 
     pub in_range : InRange before.globals o
     pub underway : IsUnderway globals items blocks at
 
-pub behind_operation : (before : Ahead) (globals : ℕ) (items : List Item) (blocks : List Block) (at : ℕ) (o : Op)
+pub past_operation : (before : Ahead) (globals : ℕ) (items : List Item) (blocks : List Block) (at : ℕ) (o : Op)
     → IsAsBefore before globals items blocks at → slice_get items at ≡ Some (item.Op o)
     → Gives before globals items blocks (at + 1) o
-behind_operation before globals items blocks at o way is =
+past_operation before globals items blocks at o way is =
     let step = at_operation globals items blocks at o way.underway is in
     let all : before.operations ≡ o ∷ left_at items blocks (at + 1) = sym way.left ∙ step.left in
     record {
@@ -373,10 +373,10 @@ behind_operation before globals items blocks at o way is =
       underway = step.underway;
     }
 
-pub behind_repeat : {before : Ahead} {globals : ℕ} {items : List Item} {blocks entered : List Block} {at : ℕ} (n : ℕ)
+pub past_repeat : {before : Ahead} {globals : ℕ} {items : List Item} {blocks entered : List Block} {at : ℕ} (n : ℕ)
     → IsAsBefore before globals items blocks at → slice_get items at ≡ Some (item.Repeat n)
     → entered ≡ record { start = at + 1; turns = n - 1 } ∷ blocks → IsAsBefore before globals items entered (at + 1)
-behind_repeat {before} {globals} {items} {blocks} {at} n way is same =
+past_repeat {before} {globals} {items} {blocks} {at} n way is same =
     let step = at_repeat globals items blocks at n way.underway is in
     subst (λ (bs : List Block). IsAsBefore before globals items bs (at + 1)) (sym same)
     (record { globals_kept = way.globals_kept; left = step.left ∙ way.left; underway = step.underway })
@@ -392,10 +392,10 @@ next_place : (items : List Item) (blocks : List Block) (at : ℕ) (start : Optio
     → IsEnded items blocks at start after next → next ≡ unwrap_or (block_end blocks).0 (at + 1)
 next_place items blocks at start after next is = is.leads ∙ ap (λ (s : Option ℕ). unwrap_or s (at + 1)) is.starts
 
-pub behind_end : {before : Ahead} {globals : ℕ} {items : List Item} {blocks : List Block} {at : ℕ} {start : Option ℕ}
+pub past_end : {before : Ahead} {globals : ℕ} {items : List Item} {blocks : List Block} {at : ℕ} {start : Option ℕ}
     {after : List Block} {next : ℕ} → IsAsBefore before globals items blocks at → slice_get items at ≡ Some item.End
     → IsEnded items blocks at start after next → IsAsBefore before globals items after next
-behind_end {before} {globals} {items} {blocks} {at} {start} {after} {next} way is end =
+past_end {before} {globals} {items} {blocks} {at} {start} {after} {next} way is end =
     let step = (at_end globals items blocks at way.underway is).1 in
     subst (λ (bs : List Block). IsAsBefore before globals items bs next) (sym end.leaves)
     (subst (λ (k : ℕ). IsAsBefore before globals items (block_end blocks).1 k)

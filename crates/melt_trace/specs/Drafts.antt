@@ -87,7 +87,7 @@ LeadsTo (Ok x) draft read = (read ≡ Ok (place_of draft)) × IsSoundDraft draft
 LeadsTo (Err (fault.Bad reason)) draft read = read ≡ Err (number_of_reason reason)
 LeadsTo (Err fault.NoMemory) draft read = Unit {0}
 
--- The first line of the bytes was taken: the rest says behind it what all of them say before it.
+-- The first line of the bytes was taken: the rest says after it what all of them say before it.
 pub record IsTaken (bytes : List ℕ) (old new : Draft) (rest : List ℕ) : Type 0 where
   pub sound : IsSoundDraft new
   pub same : (n : ℕ) → script_from n (place_of old) (lines_of bytes)

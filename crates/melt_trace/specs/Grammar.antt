@@ -8,7 +8,7 @@ use Rattle.melt_trace.specs.declared.script.Item.{Item}
 use Rattle.melt_trace.specs.declared.script.Item.TheVariants as item
 use Rattle.melt_trace.specs.Script.{Script}
 
--- a word, and numbers behind it: one space before each, and a newline at the end
+-- a word, and numbers after it: one space before each, and a newline at the end
 abbrev pub line : List ℕ → List ℕ → List ℕ
 line word numbers = word ++ flat_map (λ n. 32 ∷ decimal n) numbers ++ 10 ∷ []
 
@@ -30,7 +30,7 @@ item_line (item.Op o) = op_line o
 item_line (item.Repeat n) = line (codes "repeat") (n ∷ [])
 item_line item.End = line (codes "end") []
 
--- the programs of thread t and of those behind it
+-- the programs of thread t and of those after it
 abbrev pub program_lines : ℕ → List (List Item) → List ℕ
 program_lines t [] = []
 program_lines t (program ∷ programs) =

@@ -1,4 +1,4 @@
--- The grammar of traces: which line may stand behind which, and what the lines say together.
+-- The grammar of traces: which line may stand after which, and what the lines say together.
 use Rattle.std.specs.Prelude.{◌≡◌, ℕ, ◌<◌, ◌≤◌, ◌+◌, ◌^◌, ◌*◌, ◌-◌, Bool, true, false, not, ◌&&◌, ◌||◌, ◌==◌, nat_lt}
 use Rattle.std.specs.Prelude.{nat_le, if◌then◌else◌, zero, suc, List, [], ◌∷◌, ◌++◌, length, filter, sum_by, codes}
 use Rattle.std.specs.Prelude.{Option, None, Some, option_and_then, Result, Ok, Err}
@@ -11,14 +11,14 @@ use Rattle.melt_trace.specs.declared.script.Item.{Item}
 use Rattle.melt_trace.specs.declared.script.Item.TheVariants as item
 use Rattle.melt_trace.specs.declared.language.Word.{Word}
 use Rattle.melt_trace.specs.declared.language.Word.TheVariants as word
-use Rattle.melt_trace.specs.declared.language.Stage.{Stage}
-use Rattle.melt_trace.specs.declared.language.Stage.TheVariants as stage
+use Rattle.melt_trace.specs.declared.language.Expected.{Expected}
+use Rattle.melt_trace.specs.declared.language.Expected.TheVariants as stage
 use Rattle.melt_trace.specs.Script.{Script, expand}
 use Rattle.melt_trace.specs.Grammar.{InRange}
 
 -- 1. Lines and fields
 
--- A line ends with byte 10. A rest behind the last one is a line too, unless it is empty.
+-- A line ends with byte 10. A rest after the last one is a line too, unless it is empty.
 abbrev pub without_empty_rest : List (List ℕ) → List (List ℕ)
 without_empty_rest [] = []
 without_empty_rest ([] ∷ []) = []
@@ -45,7 +45,7 @@ is_skipped [] = true
 is_skipped ([] ∷ fields) = false
 is_skipped ((b ∷ bytes) ∷ fields) = b == 35
 
--- the number that digits spell behind those that spell n
+-- the number that digits spell after those that spell n
 abbrev pub spelled_from : ℕ → List ℕ → Option ℕ
 spelled_from n [] = Some n
 spelled_from n (b ∷ bytes) = if is_ascii_digit b then spelled_from (10 * n + (b - 48)) bytes else None
@@ -114,7 +114,7 @@ word_of = one_of (
 -- What the lines so far say: the script as far as it is whole, the program that is open, and its open blocks,
 -- the innermost first, each with whether it has an operation.
 pub record Place : Type 0 where
-  pub stage : Stage
+  pub stage : Expected
   pub threads : ℕ
   pub script : Script
   pub items : List Item
@@ -168,7 +168,7 @@ is_order word.Order = true
 is_order w = false
 
 -- whether a line with this word may stand here
-abbrev pub fits : Stage → List Bool → Word → Bool
+abbrev pub fits : Expected → List Bool → Word → Bool
 fits stage.Orders blocks w = is_order w || is_thread w
 fits stage.Between blocks w = is_thread w
 fits stage.Inside blocks w = fits_inside w blocks
@@ -213,7 +213,7 @@ operation_of word.Drop (r ∷ []) = Some (op.Drop r)
 operation_of word.Collect [] = Some op.Collect
 operation_of w ns = None
 
--- the open blocks behind an operation, or behind a block that has one: the innermost has one too
+-- the open blocks after an operation, or after a block that has one: the innermost has one too
 abbrev pub with_operation : List Bool → List Bool
 with_operation [] = []
 with_operation (b ∷ blocks) = true ∷ blocks
@@ -222,7 +222,7 @@ with_operation (b ∷ blocks) = true ∷ blocks
 abbrev pub operation_count : List (List Item) → ℕ
 operation_count programs = sum_by (λ items. length (expand items)) programs
 
--- the place behind an operation
+-- the place after an operation
 abbrev pub after_operation : Place → Option Op → Result Place ℕ
 after_operation place None = Err 6
 after_operation place (Some o) =
@@ -306,7 +306,7 @@ after_order place (t ∷ n ∷ []) =
     else Err 10
 after_order place ns = Err 7
 
--- the place behind a line with this word and these numbers
+-- the place after a line with this word and these numbers
 abbrev pub after_line : Place → Word → List ℕ → Result Place ℕ
 after_line place word.Repeat ns = after_repeat place ns
 after_line place word.End ns = after_end place place.blocks
@@ -336,8 +336,8 @@ heading text low high reason (first ∷ second ∷ []) =
     if bytes_eq first text then in_heading low high reason (number_of second) else Err reason
 heading text low high reason fields = Err reason
 
--- the place behind a line that is not skipped
-abbrev pub after_fields : Place → Stage → List (List ℕ) → Result Place ℕ
+-- the place after a line that is not skipped
+abbrev pub after_fields : Place → Expected → List (List ℕ) → Result Place ℕ
 after_fields place stage.Version fields =
     and_then (heading (codes "melt") 1 1 3 fields) (λ n. Ok
     (record { stage = stage.Threads; threads = 0; script = place.script; items = []; blocks = [] }))
@@ -356,7 +356,7 @@ after_fields place stage.Globals fields =
 after_fields place s [] = Err 6
 after_fields place s (first ∷ fields) = after_word place (word_of first) fields
 
--- the place behind a line, or the reason to refuse it
+-- the place after a line, or the reason to refuse it
 abbrev pub after : Place → List ℕ → Result Place ℕ
 after place bytes =
     if list_all is_printable bytes
@@ -366,7 +366,7 @@ after place bytes =
 -- 4. A whole trace
 
 -- the end of the input at line n, where no line is wanted any more or one is missing
-abbrev pub script_at_end : ℕ → Stage → Script → Result Script (ℕ × ℕ)
+abbrev pub script_at_end : ℕ → Expected → Script → Result Script (ℕ × ℕ)
 script_at_end n stage.Over script = Ok script
 script_at_end n s script = Err (n, 14)
 
@@ -387,7 +387,7 @@ script_of bytes = if nat_le (length bytes) max_bytes then script_from 1 first_pl
 
 -- 5. What a script may be
 
--- The lines of a program behind which these blocks are open.
+-- The lines of a program after which these blocks are open.
 abbrev pub AreItems : ℕ → List Bool → List Item → Type 0
 AreItems globals blocks [] = blocks ≡ []
 AreItems globals blocks (item.Op o ∷ items) = InRange globals o × AreItems globals (with_operation blocks) items

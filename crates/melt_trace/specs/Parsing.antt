@@ -10,7 +10,7 @@ use Rattle.melt_trace.specs.declared.reason.Reason.{Reason}
 use Rattle.melt_trace.specs.Reasons.{number_of_reason}
 use Rattle.melt_trace.specs.Language.{Range, Place, and_then, numbers, ranges_of, after_line, after_operation}
 
--- These are the fields behind the first. Of four or more it is known only that they are as many.
+-- These are the fields after the first. Of four or more it is known only that they are as many.
 abbrev pub AreArguments : Arguments → List (List ℕ) → Type 0
 AreArguments arguments.None fields = fields ≡ []
 AreArguments (arguments.One a) fields = fields ≡ a.now ∷ []
@@ -26,7 +26,7 @@ Gives view (Err reason) read = read ≡ Err (number_of_reason reason)
 abbrev pub range_of : Limits → Range
 range_of limits = record { low = limits.low; high = limits.high; reason = number_of_reason limits.reason }
 
--- the place behind a line that may stand here, with this word and these fields behind it
+-- the place after a line that may stand here, with this word and these fields after it
 abbrev pub after_arguments : Place → Word → List (List ℕ) → Result Place ℕ
 after_arguments place w fields = and_then (numbers (ranges_of place w) fields) (after_line place w)
 

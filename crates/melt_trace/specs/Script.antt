@@ -29,7 +29,7 @@ unrolled n (block ∷ []) = block ∷ []
 unrolled n (block ∷ rest ∷ around) = (times n block ++ rest) ∷ around
 
 -- Where these lines are the rest of a program: the operations up to the end of the block that is open
--- there, and then those behind that block up to the end of the one around it, and so on.
+-- there, and then those after that block up to the end of the one around it, and so on.
 abbrev pub levels : List Item → List (List Op)
 levels [] = [] ∷ []
 levels (item.Op o ∷ items) = before_first o (levels items)

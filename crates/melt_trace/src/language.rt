@@ -1,6 +1,6 @@
 //! The words of the trace language, and the places of a trace where a line can stand.
 
-/// The first field of a line behind the first three.
+/// The first field of a line after the first three.
 #[derive(Clone, Copy, Debug, PartialEq, Eq)]
 pub enum Word {
     New,
@@ -24,7 +24,7 @@ pub enum Word {
 /// What is wanted next: one of the first three lines, an order or the first program, a line of a
 /// program, the next program, or nothing more.
 #[derive(Clone, Copy, Debug, PartialEq, Eq)]
-pub enum Stage {
+pub enum Expected {
     Version,
     Threads,
     Globals,

@@ -16,7 +16,7 @@ mod operations;
 mod words;
 
 use crate::error::{ParseRefusal, TraceError};
-use crate::language::Stage;
+use crate::language::Expected;
 use crate::parser::canonical::canonical_operation;
 use crate::parser::draft::Draft;
 use crate::parser::fault::Fault;
@@ -30,14 +30,14 @@ use std::alloc::Global;
 /// The most bytes that a trace may have.
 pub const MAX_BYTES: usize = 16_777_216;
 
-/// Takes the first line, where there is a byte, and answers what stands behind it.
+/// Takes the first line, where there is a byte, and answers what stands after it.
 #[inline(always)]
 fn take_next<'a>(draft: &mut Draft, alloc: Global, bytes: &'a [u8]) -> Result<&'a [u8], Fault>
     requires sound { IsSoundDraft draft.old }
     requires some { 0 < length bytes.now }
     ensures { TakesLine (λ rest. rest.now) result bytes.now draft.old draft.new }
 {
-    if matches!(draft.stage, Stage::Inside)
+    if matches!(draft.stage, Expected::Inside)
         && let Some((op, rest)) = canonical_operation(bytes, draft.globals)
     {
         draft.operation(op)?;
@@ -56,18 +56,18 @@ fn read_lines(alloc: Global, bytes: &[u8]) -> Result<Draft, ParseRefusal>
     if bytes.len() > MAX_BYTES {
         return Err(ParseRefusal::Bad(TraceError::too_long()));
     }
-    let mut draft = Draft::empty(alloc, Stage::Version, 0, 0);
+    let mut draft = Draft::empty(alloc, Expected::Version, 0, 0);
     let mut rest = bytes;
     let mut line: u32 = 1;
     while !rest.is_empty() {
         rest = match take_next(&mut draft, alloc, rest) {
-            Ok(behind) => behind,
+            Ok(after) => after,
             Err(Fault::Bad(reason)) => return Err(ParseRefusal::Bad(TraceError::at(line, reason))),
             Err(Fault::NoMemory) => return Err(ParseRefusal::NoMemory),
         };
         line += 1;
     }
-    if matches!(draft.stage, Stage::Over) {
+    if matches!(draft.stage, Expected::Over) {
         Ok(draft)
     } else {
         Err(ParseRefusal::Bad(TraceError::at(line, Reason::EndsEarly)))

@@ -20,7 +20,7 @@ fn push_number(out: &mut Vec<u8>, number: u64) -> Result<(), NoMemory>
     Ok(())
 }
 
-/// Adds a line: a word, and numbers behind it.
+/// Adds a line: a word, and numbers after it.
 pub fn push_line(out: &mut Vec<u8>, word: &[u8], numbers: &[u64]) -> Result<(), NoMemory>
     ensures { OnOk result (out.new.items ≡ out.old.items ++ line word.now numbers.now) }
 {

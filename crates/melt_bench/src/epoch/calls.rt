@@ -2,12 +2,12 @@
 //! These objects are so large that no two threads write into one line of a cache.
 ghost use Rattle.std.specs.Prelude.{◌<◌, ◌≤◌, ◌^◌, IfOk};
 ghost use Rattle.melt_epoch.specs.Tests.{HasBegun, MayCall};
-ghost use Rattle.melt_epoch_tests.specs.Stages.{GoesOnStage};
+ghost use Rattle.melt_epoch_tests.specs.Scenes.{GoesOnScene};
 
 use anyhow::{Context, Result, ensure};
 use melt_core::Refusal;
 use melt_epoch::{Epoch, Mutator};
-use melt_epoch_tests::{Stage, World};
+use melt_epoch_tests::{Scene, World};
 use melt_io::{MemDisk, RecordReader, StaleDisk};
 use melt_model::{Op, Reply};
 use std::alloc::Global;
@@ -198,21 +198,21 @@ fn repeat_all<T: Threads + Sync, R: RecordReader + Send>(
     }
 }
 
-/// Lets the first threads of a stage do so. Where it has no global, there is no answer.
+/// Lets the first threads of a scene do so. Where it has no global, there is no answer.
 pub fn repeat_on<T: Threads + Sync, D: StaleDisk, R: RecordReader + Send>(
     rt: &T,
-    stage: &mut Stage<'_, D, R>,
+    scene: &mut Scene<'_, D, R>,
     threads: usize,
     call: Call,
     count: u32,
 ) -> Option<u64>
-    requires { GoesOnStage R.image stage.old.epoch stage.old.mutators stage.old.globals stage.old.disk.end }
-    ensures { GoesOnStage R.image stage.new.epoch stage.new.mutators stage.new.globals stage.new.disk.end }
+    requires { GoesOnScene R.image scene.old.epoch scene.old.mutators scene.old.globals scene.old.disk.end }
+    ensures { GoesOnScene R.image scene.new.epoch scene.new.mutators scene.new.globals scene.new.disk.end }
 {
-    if stage.globals == 0 {
+    if scene.globals == 0 {
         return None;
     }
-    repeat_all(rt, &stage.epoch, &mut stage.mutators, threads, call, count)
+    repeat_all(rt, &scene.epoch, &mut scene.mutators, threads, call, count)
 }
 
 /// The calls by which a thread makes its object of 64 words. The global holds that of the last one.
@@ -231,13 +231,13 @@ const OBJECT: [Op; 3] = [
 ];
 
 /// Lets each thread make its object. Answers whether all did.
-fn make_objects<D: StaleDisk, R: RecordReader>(stage: &mut Stage<'_, D, R>) -> bool
-    requires { GoesOnStage R.image stage.old.epoch stage.old.mutators stage.old.globals stage.old.disk.end }
-    ensures { GoesOnStage R.image stage.new.epoch stage.new.mutators stage.new.globals stage.new.disk.end }
+fn make_objects<D: StaleDisk, R: RecordReader>(scene: &mut Scene<'_, D, R>) -> bool
+    requires { GoesOnScene R.image scene.old.epoch scene.old.mutators scene.old.globals scene.old.disk.end }
+    ensures { GoesOnScene R.image scene.new.epoch scene.new.mutators scene.new.globals scene.new.disk.end }
 {
     let mut is_made = true;
     for thread in 0..8 {
-        is_made &= stage.call_all(thread, &OBJECT);
+        is_made &= scene.call_all(thread, &OBJECT);
     }
     is_made
 }
@@ -257,10 +257,10 @@ pub fn time_calls<T: Threads + Sync>(
 {
     let mut disk = MemDisk::new(alloc);
     let world = World::new(alloc, &mut disk, 1, words, 1, 0)?;
-    let mut stage = world.open(alloc)?;
-    let is_made = make_objects(&mut stage);
-    let sum = repeat_on(rt, &mut stage, threads, call, count);
-    let world = stage.finish();
+    let mut scene = world.open(alloc)?;
+    let is_made = make_objects(&mut scene);
+    let sum = repeat_on(rt, &mut scene, threads, call, count);
+    let world = scene.finish();
     ensure!(is_made, "an object was not made");
     let sum = sum.context("a call was refused")?;
     Ok((sum, world.used()))

@@ -2,12 +2,12 @@
 //! and its first number says at which place of the list it stands, from 1.
 ghost use Rattle.std.specs.Prelude.{◌≡◌, ◌≢◌, ◌+◌, ◌*◌, ◌<◌, ◌≤◌, ◌^◌, ◌↔◌, [], All, IsSome};
 ghost use Rattle.melt_epoch.specs.Tests.{HasBegun, MayCall};
-ghost use Rattle.melt_epoch_tests.specs.Stages.{GoesOnStage};
+ghost use Rattle.melt_epoch_tests.specs.Scenes.{GoesOnScene};
 
 use crate::epoch::calls::number_of;
 use melt_core::Refusal;
 use melt_epoch::{Epoch, Mutator};
-use melt_epoch_tests::Stage;
+use melt_epoch_tests::Scene;
 use melt_io::{RecordReader, StaleDisk};
 use std::sync::atomic::{AtomicU64, Ordering};
 use std::sync::{Mutex, Wait};
@@ -65,11 +65,11 @@ fn make_list<R: RecordReader>(
     requires may { MayCall R.image epoch.now.words m.old }
     ensures may { MayCall R.image epoch.now.words m.new }
 {
-    for behind in 0..lists.objects {
+    for after in 0..lists.objects {
         epoch.gload(m, 0, g)?;
         epoch.make(m, 1, 2, lists.nums)?;
         epoch.store(m, 1, 0, 0)?;
-        epoch.put(m, 1, 0, u64::from(lists.objects - behind))?;
+        epoch.put(m, 1, 0, u64::from(lists.objects - after))?;
         epoch.gstore(m, g, 1)?;
     }
     Ok(())
@@ -105,21 +105,21 @@ fn make_list_of<T: Threads + Sync, R: RecordReader + Send>(
     made.into_inner() == 1
 }
 
-/// Makes the list of a thread on a stage. Answers whether it was made.
+/// Makes the list of a thread on a scene. Answers whether it was made.
 pub fn make_on<T: Threads + Sync, D: StaleDisk, R: RecordReader + Send>(
     rt: &T,
-    stage: &mut Stage<'_, D, R>,
+    scene: &mut Scene<'_, D, R>,
     lists: Lists,
     thread: usize,
 ) -> bool
-    requires { GoesOnStage R.image stage.old.epoch stage.old.mutators stage.old.globals stage.old.disk.end }
-    ensures { GoesOnStage R.image stage.new.epoch stage.new.mutators stage.new.globals stage.new.disk.end }
+    requires { GoesOnScene R.image scene.old.epoch scene.old.mutators scene.old.globals scene.old.disk.end }
+    ensures { GoesOnScene R.image scene.new.epoch scene.new.mutators scene.new.globals scene.new.disk.end }
 {
     make_list_of(
         rt,
-        &stage.epoch,
-        stage.globals,
-        &mut stage.mutators,
+        &scene.epoch,
+        scene.globals,
+        &mut scene.mutators,
         lists,
         thread,
     )
@@ -152,7 +152,7 @@ struct Walk {
     last: u64,
 }
 
-/// Walks a list and looks at the clock before and behind that, or none where a load was refused.
+/// Walks a list and looks at the clock before and after that, or none where a load was refused.
 fn walk_by_the_clock<C: Clock, R: RecordReader>(
     clock: &C,
     epoch: &Epoch,
@@ -247,15 +247,15 @@ fn walk_all<T: Threads + Wait + Sync + Clock, R: RecordReader + Send>(
     walks.into_inner()
 }
 
-/// Lets each thread of a stage walk its list, all at once.
+/// Lets each thread of a scene walk its list, all at once.
 pub fn walk_on<T: Threads + Wait + Sync + Clock, D: StaleDisk, R: RecordReader + Send>(
     rt: &T,
-    stage: &mut Stage<'_, D, R>,
+    scene: &mut Scene<'_, D, R>,
     lists: Lists,
 ) -> Option<Walked>
-    requires { GoesOnStage R.image stage.old.epoch stage.old.mutators stage.old.globals stage.old.disk.end }
-    ensures { GoesOnStage R.image stage.new.epoch stage.new.mutators stage.new.globals stage.new.disk.end }
+    requires { GoesOnScene R.image scene.old.epoch scene.old.mutators scene.old.globals scene.old.disk.end }
+    ensures { GoesOnScene R.image scene.new.epoch scene.new.mutators scene.new.globals scene.new.disk.end }
 {
-    let walks = walk_all(rt, &stage.epoch, stage.globals, &mut stage.mutators, lists);
+    let walks = walk_all(rt, &scene.epoch, scene.globals, &mut scene.mutators, lists);
     all_of(walks.get(..lists.threads as usize)?)
 }

@@ -30,9 +30,9 @@ fn fill<'d, T: Threads + Sync>(
     ensures { IfOk result (λ world. IsFormedOn world.heap [] world.disk.end) }
 {
     let count = world.heap.space.words() / COST;
-    let mut stage = world.open(alloc)?;
-    let sum = repeat_on(rt, &mut stage, 1, Call::Make64, count);
-    let world = stage.finish();
+    let mut scene = world.open(alloc)?;
+    let sum = repeat_on(rt, &mut scene, 1, Call::Make64, count);
+    let world = scene.finish();
     sum.context("the heap was full too early")?;
     Ok(world)
 }
@@ -49,9 +49,9 @@ fn begin_and_finish<'d, C: Clock>(
     let mut world = world;
     let readers = world.lend(alloc)?;
     let before = Instant::now(clock)?;
-    let stage = world.begin(alloc, readers)?;
+    let scene = world.begin(alloc, readers)?;
     let between = Instant::now(clock);
-    let world = stage.finish();
+    let world = scene.finish();
     let after = Instant::now(clock)?;
     let between = between?;
     let turn = Turn {
@@ -76,8 +76,8 @@ pub fn time_turns<T: Threads + Sync + Clock>(
     let mut world = fill(rt, alloc, world)?;
     let mut turns = Vec::new(alloc);
     for _ in 0..count {
-        let (behind, turn) = begin_and_finish(rt, alloc, world)?;
-        world = behind;
+        let (later, turn) = begin_and_finish(rt, alloc, world)?;
+        world = later;
         turns.push(turn)?;
     }
     Ok(turns)

@@ -1,13 +1,13 @@
 //! How long loads take that find a tag: each thread walks its list once in an epoch, and before that collections let
 //! each object have its stale bit, or move it to the disk.
 ghost use Rattle.std.specs.Prelude.{◌≡◌, ◌<◌, ◌^◌, [], length, IfOk};
-ghost use Rattle.melt_epoch_tests.specs.Stages.{GoesOnStage};
+ghost use Rattle.melt_epoch_tests.specs.Scenes.{GoesOnScene};
 ghost use Rattle.melt_move.specs.Collecting.{IsFormedOn};
 
 use crate::epoch::MANY;
 use crate::epoch::lists::{Lists, Walked, make_on, walk_on};
 use anyhow::{Context, Result, anyhow, ensure};
-use melt_epoch_tests::{Stage, World};
+use melt_epoch_tests::{Scene, World};
 use melt_io::{FileDisk, StaleDisk, StdFile};
 use melt_model::Phase;
 use std::alloc::Global;
@@ -15,7 +15,7 @@ use std::sync::Wait;
 use std::thread::Threads;
 use std::time::{Clock, Duration};
 
-/// The file `melt.stale` of the current folder. How large a stage is cannot be told for any disk.
+/// The file `melt.stale` of the current folder. How large a scene is cannot be told for any disk.
 pub type Disk = FileDisk<StdFile<HostRuntime>>;
 
 /// What each load finds that a walk makes.
@@ -27,7 +27,7 @@ pub enum Tag {
     Home,
 }
 
-/// How long each walk took, and what was there behind the last.
+/// How long each walk took, and what was there after the last.
 #[derive(Debug, Drop)]
 pub struct Times {
     pub took: Vec<Duration>,
@@ -38,10 +38,10 @@ pub struct Times {
 }
 
 /// Begins an epoch of eight threads.
-fn open<'d, D: StaleDisk>(alloc: Global, world: World<'d, D>) -> Result<Stage<'d, D, D::Reader>>
+fn open<'d, D: StaleDisk>(alloc: Global, world: World<'d, D>) -> Result<Scene<'d, D, D::Reader>>
     requires { IsFormedOn world.heap [] world.disk.end }
     ensures { IfOk result
-        (λ stage. GoesOnStage D.Reader.image stage.epoch stage.mutators stage.globals stage.disk.end) }
+        (λ scene. GoesOnScene D.Reader.image scene.epoch scene.mutators scene.globals scene.disk.end) }
 {
     let mut world = world;
     let readers = world
@@ -63,9 +63,9 @@ fn make_one<'d, T: Threads + Sync>(
     requires { IsFormedOn world.heap [] world.disk.end }
     ensures { IfOk result (λ world. IsFormedOn world.heap [] world.disk.end) }
 {
-    let mut stage = open(alloc, world)?;
-    let is_made = make_on(rt, &mut stage, lists, thread as usize);
-    let world = stage.finish();
+    let mut scene = open(alloc, world)?;
+    let is_made = make_on(rt, &mut scene, lists, thread as usize);
+    let world = scene.finish();
     ensure!(is_made, "an object was not made");
     Ok(world)
 }
@@ -97,9 +97,9 @@ fn walk_lists<'d, T: Threads + Wait + Sync + Clock>(
     requires { IsFormedOn world.heap [] world.disk.end }
     ensures { IfOk result (λ r. IsFormedOn r.0.heap [] r.0.disk.end) }
 {
-    let mut stage = open(alloc, world)?;
-    let walked = walk_on(rt, &mut stage, lists);
-    let world = stage.finish();
+    let mut scene = open(alloc, world)?;
+    let walked = walk_on(rt, &mut scene, lists);
+    let world = scene.finish();
     let walked = walked.context("a load was refused")?;
     Ok((world, walked))
 }
@@ -142,7 +142,7 @@ fn make_all<'d, T: Threads + Sync>(
     Ok(world)
 }
 
-/// Walks the lists in so many epochs. Where objects move to the disk, that has the Body of each behind the last walk.
+/// Walks the lists in so many epochs. Where objects move to the disk, that has the Body of each after the last walk.
 pub fn time_walks<T: Threads + Wait + Sync + Clock>(
     rt: &T,
     alloc: Global,
@@ -159,8 +159,8 @@ pub fn time_walks<T: Threads + Wait + Sync + Clock>(
     let mut sum = 0_u64;
     for _ in 0..epochs {
         let aged = age(alloc, world, tag)?;
-        let (behind, walked) = walk_lists(rt, alloc, aged, lists)?;
-        world = behind;
+        let (after, walked) = walk_lists(rt, alloc, aged, lists)?;
+        world = after;
         took.push(walked.took)?;
         sum = sum.saturating_add(walked.sum);
     }

@@ -1,4 +1,4 @@
-//! What the words behind the command `run` ask for.
+//! What the words after the command `run` ask for.
 ghost use Rattle.std.specs.Prelude.{◌≡◌, ◌≤◌, ◌↔◌, map, string_bytes, IsTrue, IfOk, IfSome, OnErr};
 ghost use Rattle.melt_model.specs.Config.{InRanges};
 ghost use Rattle.melt_bench.specs.Asked.{with_named, with_setting, with_settings, with_word};

@@ -1,12 +1,12 @@
 ghost use Rattle.std.specs.Prelude.{◌≡◌, [], IfOk, None};
-ghost use Rattle.melt_epoch_tests.specs.Stages.{GoesOnStage};
+ghost use Rattle.melt_epoch_tests.specs.Scenes.{GoesOnScene};
 ghost use Rattle.melt_move.specs.Collecting.{IsFormedOn};
 
 use super::calls::{new, put};
 use super::short::Short;
+use crate::log::{Log, LoggedCall};
 use crate::play::{Signals, Step};
-use crate::stage::Stage;
-use crate::told::{Log, Told};
+use crate::scene::Scene;
 use crate::trouble::Trouble;
 use crate::world::World;
 use melt_core::Refusal;
@@ -101,8 +101,8 @@ fn first_calls(before: &Before<'_>) -> Short<Op> {
     calls
 }
 
-/// The heap behind that, with 8 globals.
-pub(super) fn world_behind<'d>(
+/// The heap after that, with 8 globals.
+pub(super) fn world_after<'d>(
     alloc: Global,
     disk: &'d mut MemDisk,
     before: &Before<'_>,
@@ -124,7 +124,7 @@ pub(super) struct Seen {
     pub(super) held: [u32; 8],
 }
 
-/// The same, and the heap behind them.
+/// The same, and the heap after them.
 #[derive(Drop)]
 pub(super) struct Ended<'d> {
     pub(super) seen: Seen,
@@ -178,10 +178,10 @@ fn begin_flawed<'d>(
     world: World<'d, MemDisk>,
     signals: &Arc<Signals, Global>,
     flaw: Flaw,
-) -> Result<Stage<'d, MemDisk, Flawed<MemReader>>, Trouble>
+) -> Result<Scene<'d, MemDisk, Flawed<MemReader>>, Trouble>
     requires { IsFormedOn world.heap [] world.disk.end }
     ensures { IfOk result
-        (λ stage. GoesOnStage (λ _. None) stage.epoch stage.mutators stage.globals stage.disk.end) }
+        (λ scene. GoesOnScene (λ _. None) scene.epoch scene.mutators scene.globals scene.disk.end) }
 {
     let mut world = world;
     let signals = Arc::try_clone(signals)?;
@@ -202,11 +202,11 @@ pub(super) fn run<'d, T: Threads + Wait + Sync>(
     ensures { IfOk result (λ ended. IsFormedOn ended.world.heap [] ended.world.disk.end) }
 {
     let signals = Arc::new(alloc, Signals::new())?;
-    let mut stage = begin_flawed(alloc, world, &signals, flaw)?;
-    let logs = stage.play(rt, &signals, programs);
-    let held = stage.held(r);
+    let mut scene = begin_flawed(alloc, world, &signals, flaw)?;
+    let logs = scene.play(rt, &signals, programs);
+    let held = scene.held(r);
     let seen = Seen { logs, held };
-    let world = stage.finish();
+    let world = scene.finish();
     Ok(Ended { seen, world })
 }
 
@@ -220,7 +220,7 @@ fn run_over<T: Threads + Wait + Sync>(
     programs: &[&[Step]],
     r: usize,
 ) -> Result<Left, Trouble> {
-    let world = world_behind(alloc, disk, before)?;
+    let world = world_after(alloc, disk, before)?;
     let used = world.used();
     let Ended { seen, world } = run(rt, alloc, world, flaw, programs, r)?;
     Ok(Left {
@@ -231,7 +231,7 @@ fn run_over<T: Threads + Wait + Sync>(
 }
 
 /// Runs them over what was done before.
-pub(super) fn run_behind<T: Threads + Wait + Sync>(
+pub(super) fn run_after<T: Threads + Wait + Sync>(
     rt: &T,
     alloc: Global,
     before: &Before<'_>,
@@ -244,7 +244,7 @@ pub(super) fn run_behind<T: Threads + Wait + Sync>(
 }
 
 /// What a thread was told of its call `at`.
-pub(super) fn told(logs: &[Log], thread: usize, at: usize) -> Option<Told> {
+pub(super) fn told(logs: &[Log], thread: usize, at: usize) -> Option<LoggedCall> {
     *logs.get(thread)?.get(at)?
 }
 

@@ -2,9 +2,9 @@ ghost use Rattle.std.specs.Prelude.{[], IfOk};
 ghost use Rattle.melt_move.specs.Collecting.{IsFormedOn};
 
 use super::calls::gload;
-use super::given::{Before, Ended, Flaw, result, run, run_behind, world_behind};
+use super::given::{Before, Ended, Flaw, result, run, run_after, world_after};
+use crate::log::Log;
 use crate::play::Step::{self, Await, Call, Raise};
-use crate::told::Log;
 use crate::world::World;
 use melt_core::{Pause, Refusal};
 use melt_io::MemDisk;
@@ -43,7 +43,7 @@ fn hold_one(held: &[u32; 8], threads: usize) -> bool {
 #[test]
 fn two_loads_of_one_home_find_one_object(rt: HostRuntime) -> Result<(), Fail> {
     let programs: [&[Step]; 2] = [&[Call(gload(0, 0))], &[Call(gload(0, 1))]];
-    let left = run_behind(&rt, rt.alloc(), &ONE, Flaw::Nothing, &programs, 0)?;
+    let left = run_after(&rt, rt.alloc(), &ONE, Flaw::Nothing, &programs, 0)?;
     let told = [result(&left.seen.logs, 0, 0), result(&left.seen.logs, 1, 0)];
     same((left.used, told), (0, [Some(Ok(Reply::Ref)); 2]))?;
     let held = left.seen.held;
@@ -99,7 +99,7 @@ fn load_again<T: Threads + Wait + Sync>(
     alloc: Global,
     disk: &mut MemDisk,
 ) -> Result<(), Fail> {
-    let mut world = world_behind(alloc, disk, &ONE)?;
+    let mut world = world_after(alloc, disk, &ONE)?;
     for _round in 0..ROUNDS {
         world = load_by_eight(rt, alloc, world)?;
     }
@@ -153,7 +153,7 @@ const LOAD_TWICE: [&[Step]; 3] = [
 fn one_home_more_than_there_are_forwarding_words_stops_all(rt: HostRuntime) -> Result<(), Fail> {
     let asked = Some(Err(Refusal::Pause(Pause::Asked)));
     for _ in 0..20 {
-        let left = run_behind(&rt, rt.alloc(), &THREE, Flaw::Nothing, &LOAD_TWICE, 0)?;
+        let left = run_after(&rt, rt.alloc(), &THREE, Flaw::Nothing, &LOAD_TWICE, 0)?;
         let (mut found, mut full) = (0_u32, 0_u32);
         for k in 0..3 {
             match result(&left.seen.logs, k, 0) {
@@ -174,7 +174,7 @@ fn as_many_homes_as_forwarding_words_come_back(rt: HostRuntime) -> Result<(), Fa
         &[Call(gload(0, 0)), Call(gload(0, 1))],
         &[Call(gload(0, 1)), Call(gload(0, 0))],
     ];
-    let left = run_behind(&rt, rt.alloc(), &THREE, Flaw::Nothing, &programs, 0)?;
+    let left = run_after(&rt, rt.alloc(), &THREE, Flaw::Nothing, &programs, 0)?;
     for (k, at) in [(0, 0), (0, 1), (1, 0), (1, 1)] {
         let told = result(&left.seen.logs, k, at);
         same((k, at, told), (k, at, Some(Ok(Reply::Ref))))?;

@@ -2,7 +2,7 @@
 ghost use Rattle.std.specs.Prelude.{◌≡◌, ◌+◌, ◌*◌, ◌^◌, ◌<◌};
 
 use super::short::Short;
-use crate::told::{Log, Told};
+use crate::log::{Log, LoggedCall};
 use melt_model::{Op, Reply};
 use std::alloc::{AllocError, Global};
 
@@ -150,7 +150,7 @@ impl Held {
 }
 
 /// What a call means by what is in the registers of its thread, and what it leaves there.
-fn meaning_of(held: &mut Held, told: &Told) -> Meaning {
+fn meaning_of(held: &mut Held, told: &LoggedCall) -> Meaning {
     match told.result {
         Ok(reply) => held.of_answered(told.op, reply, told.found),
         Err(_) => Meaning::Nothing,
@@ -194,8 +194,8 @@ fn next_of(threads: &[&[Deed]], state: &State, thread: usize) -> Option<Deed> {
     threads.get(thread)?.get(done).copied()
 }
 
-/// The state behind a deed of a thread, where the deed can be done.
-fn behind(state: &State, thread: usize, deed: Deed) -> Option<State> {
+/// The state after a deed of a thread, where the deed can be done.
+fn state_after(state: &State, thread: usize, deed: Deed) -> Option<State> {
     let mut next = *state;
     let word = next.memory.get_mut(deed.place)?;
     let is_found = *word == deed.value || (deed.value == SOME && *word != 0);
@@ -226,7 +226,7 @@ fn push_next(
             continue;
         };
         if deed.begun < first_end {
-            if let Some(next) = behind(state, thread, deed) {
+            if let Some(next) = state_after(state, thread, deed) {
                 open.push(next)?;
             }
         }

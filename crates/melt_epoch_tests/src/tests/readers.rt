@@ -1,7 +1,7 @@
 use super::calls::{gload, gstore, load, store};
-use super::given::{Before, Flaw, result, run_behind, told};
+use super::given::{Before, Flaw, result, run_after, told};
+use crate::log::LoggedCall;
 use crate::play::Step::{self, Await, Call, Raise};
-use crate::told::Told;
 use melt_core::Refusal;
 use melt_model::{Op, Reply};
 use melt_record::Damaged;
@@ -12,7 +12,7 @@ use std::test::Fail;
 use std::thread::Threads;
 
 /// Whether a call was made while the other was.
-fn is_within(call: Option<Told>, other: Option<Told>) -> bool {
+fn is_within(call: Option<LoggedCall>, other: Option<LoggedCall>) -> bool {
     match (call, other) {
         (Some(call), Some(other)) => other.begun < call.begun && call.ended < other.ended,
         _ => false,
@@ -20,7 +20,7 @@ fn is_within(call: Option<Told>, other: Option<Told>) -> bool {
 }
 
 /// The number in the object that a load found.
-fn found(load: Option<Told>) -> Option<u64> {
+fn found(load: Option<LoggedCall>) -> Option<u64> {
     load?.found
 }
 
@@ -46,7 +46,7 @@ fn the_object_of_a_stub_is_cleared_while_the_stub_is_read(rt: HostRuntime) -> Re
         &[Call(gload(0, 0)), Call(load(1, 0, 0))],
         &[Await(0), Call(gload(1, 1)), Raise(1)],
     ];
-    let left = run_behind(&rt, rt.alloc(), &STUB, Flaw::Waits(3), &programs, 1)?;
+    let left = run_after(&rt, rt.alloc(), &STUB, Flaw::Waits(3), &programs, 1)?;
     let [first, second] = [told(&left.seen.logs, 0, 1), told(&left.seen.logs, 1, 0)];
     same([found(first), found(second)], [Some(2), Some(2)])?;
     same(is_within(second, first), true)?;
@@ -85,7 +85,7 @@ fn a_reader_fails_or_lies_for_one_thread_alone(rt: HostRuntime) -> Result<(), Fa
         (Flaw::Lies(1, 0), damaged(0, 0)),
         (Flaw::Lies(2, 4), damaged(2, 4)),
     ] {
-        let left = run_behind(&rt, rt.alloc(), &TWO, flaw, &LOAD_TWICE, 0)?;
+        let left = run_after(&rt, rt.alloc(), &TWO, flaw, &LOAD_TWICE, 0)?;
         let numbers = [
             found(told(&left.seen.logs, 0, 1)),
             found(told(&left.seen.logs, 1, 0)),
@@ -134,7 +134,7 @@ fn store_within<T: Threads + Wait + Sync>(
         Call(stored),
         Raise(1),
     ];
-    let left = run_behind(rt, alloc, &SLOT, Flaw::Waits(1), &[&first, &second], 3)?;
+    let left = run_after(rt, alloc, &SLOT, Flaw::Waits(1), &[&first, &second], 3)?;
     let reply = if number.is_some() {
         Reply::Ref
     } else {

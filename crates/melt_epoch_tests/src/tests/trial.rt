@@ -9,8 +9,8 @@ use super::calls::{get, gload, gstore, load, new, put, store};
 use super::judge::{Deed, GLOBALS, Memory, PLACES, add_deeds, global, slot, stand_in_an_order};
 use super::random::Random;
 use super::short::{Short, slices};
+use crate::log::Log;
 use crate::play::{Signals, Step};
-use crate::told::Log;
 use crate::trouble::Trouble;
 use crate::world::World;
 use melt_io::MemDisk;
@@ -67,7 +67,7 @@ fn set(memory: &mut Memory, place: usize, object: u8) {
     }
 }
 
-/// Calls that make the first objects with random references between them, and what is where behind them.
+/// Calls that make the first objects with random references between them, and what is where after them.
 fn first_calls(random: &mut Random) -> (Short<Op>, Memory) {
     let mut ops = Short::new(Op::Collect);
     let mut memory = [0; PLACES];
@@ -185,19 +185,19 @@ fn look() -> Short<Step> {
     program
 }
 
-/// What the threads of a trial were told, and what was there before and behind that.
+/// What the threads of a trial were told, and what was there before and after that.
 #[derive(Clone, Copy)]
 struct Played {
     /// Which object was at each place.
     memory: Memory,
     logs: [Log; 8],
-    /// What one thread was told behind all others.
+    /// What one thread was told after all others.
     last: Log,
     /// How many objects came back from the disk.
     returned: Option<usize>,
 }
 
-/// Whether the logs of threads stand in one order, the last one behind all others.
+/// Whether the logs of threads stand in one order, the last one after all others.
 fn judge(alloc: Global, played: &Played) -> Result<bool, AllocError> {
     let mut threads = [Short::new(NO_DEED); 8];
     let mut is_meant = true;
@@ -250,11 +250,11 @@ fn play_over<T: Threads + Wait + Sync>(
     let (world, memory) = new_world(alloc, &mut random, disk)?;
     let threads = 2 + random.small(7);
     let programs = new_programs(&mut random, threads);
-    let mut stage = world.open(alloc)?;
+    let mut scene = world.open(alloc)?;
     let signals = Signals::new();
-    let logs = stage.play(rt, &signals, &slices(&programs)[..usize::from(threads)]);
-    let last = stage.play(rt, &signals, &[look().as_slice()]);
-    let world = stage.finish();
+    let logs = scene.play(rt, &signals, &slices(&programs)[..usize::from(threads)]);
+    let last = scene.play(rt, &signals, &[look().as_slice()]);
+    let world = scene.finish();
     Ok(Played {
         memory,
         logs,

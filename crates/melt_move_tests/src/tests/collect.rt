@@ -45,7 +45,7 @@ fn same_numbers(names: &Option<Names>) -> Result<(), Fail> {
     )
 }
 
-/// Fails where another collection is told, or the heap or the registers are not as they are to be behind it.
+/// Fails where another collection is told, or the heap or the registers are not as they are to be after it.
 fn same_moved(heap: &Heap, held: [Registers; 1], told: Told) -> Result<(), Fail> {
     let journal = Journal {
         phase: Phase::Move,

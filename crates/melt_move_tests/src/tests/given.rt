@@ -94,7 +94,7 @@ pub const EAGER: Plan = Plan {
     move_: 0,
 };
 
-/// What is told of a collection: its journal, the phase that is planned behind it, and where the homes end then.
+/// What is told of a collection: its journal, the phase that is planned after it, and where the homes end then.
 pub type Told = (Journal, Phase, u32);
 
 /// Makes a planned collection, and counts no steps.

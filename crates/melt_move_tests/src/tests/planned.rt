@@ -46,7 +46,7 @@ fn same_phases(told: [Told; 3]) -> Result<(), Fail> {
     same(told, wanted)
 }
 
-/// Fails where other collections are told, the box has not left the heap behind them, or the pair has not stayed.
+/// Fails where other collections are told, the box has not left the heap after them, or the pair has not stayed.
 fn same_left(heap: &Heap, held: [Registers; 1], told: [Told; 3]) -> Result<(), Fail> {
     same_phases(told)?;
     let globals = [encode_ref(Ref::Disk(5)), encode_ref(Ref::Stale(1))];

@@ -11,7 +11,7 @@ use std::test::Fail;
 const SHAPE: Shape = Shape { refs: 0, nums: 1 };
 
 #[test]
-fn homes_stand_one_behind_another_up_to_the_limit(rt: HostRuntime) -> Result<(), Fail> {
+fn homes_stand_one_after_another_up_to_the_limit(rt: HostRuntime) -> Result<(), Fail> {
     let full = DiskFull {
         end: 9,
         need: 2,
@@ -124,8 +124,8 @@ fn a_lend_that_fails_leaves_the_records(rt: HostRuntime) -> Result<(), Fail> {
     same(counts, [2, 1, 0])
 }
 
-/// Writes a body to the home 1 of a new space, and a word behind it to the disk that the space gives back.
-fn write_behind(disk: &mut SteadyDisk) -> Result<(), Fail> {
+/// Writes a body to the home 1 of a new space, and a word after it to the disk that the space gives back.
+fn write_after(disk: &mut SteadyDisk) -> Result<(), Fail> {
     let mut space = StaleSpace::new(disk, 9);
     same(space.reserve_home(SHAPE), Ok(1))?;
     space.write_body(1, SHAPE, &[7])?;
@@ -136,7 +136,7 @@ fn write_behind(disk: &mut SteadyDisk) -> Result<(), Fail> {
 #[test]
 fn the_disk_comes_back_with_what_was_written(rt: HostRuntime) -> Result<(), Fail> {
     let mut disk = SteadyDisk::new(rt.alloc());
-    write_behind(&mut disk)?;
+    write_after(&mut disk)?;
     let image = [0, 4_295_032_833, 0, 7, 8];
     same((disk.image.as_slice(), disk.writes), (image.as_slice(), 2))
 }

@@ -7,7 +7,7 @@ use std::alloc::Global;
 use std::test::Fail;
 
 #[test]
-fn objects_stand_one_behind_the_other(rt: HostRuntime) -> Result<(), Fail> {
+fn objects_stand_one_after_the_other(rt: HostRuntime) -> Result<(), Fail> {
     let pair = Shape { refs: 1, nums: 0 };
     let numbers = Shape { refs: 0, nums: 2 };
     let empty = Shape { refs: 0, nums: 0 };

@@ -42,7 +42,7 @@ struct Case<'a> {
     halt: Option<Halt>,
 }
 
-/// Reads 1 and 2 of the reader that is lent last find the record: its first two words, and what is behind them.
+/// Reads 1 and 2 of the reader that is lent last find the record: its first two words, and what is after them.
 const RETURN: Story<'static> = Story {
     text: MOVE_AND_RETURN,
     forward: 16,
@@ -75,7 +75,7 @@ const SLOT: Story<'static> = Story {
     journal: &JOURNAL_OF_THREE,
 };
 
-/// A write or a lend fails behind so many replies and collections.
+/// A write or a lend fails after so many replies and collections.
 const fn halts(flaws: &[Flaw], replies: usize, collections: usize) -> Case<'_> {
     Case {
         flaws,
@@ -86,7 +86,7 @@ const fn halts(flaws: &[Flaw], replies: usize, collections: usize) -> Case<'_> {
     }
 }
 
-/// Its thread ends behind so many replies and three collections, since a word of the record at word 1 is none that may
+/// Its thread ends after so many replies and three collections, since a word of the record at word 1 is none that may
 /// stand there.
 const fn damages(flaws: &[Flaw], replies: usize, at: u32, word: u64) -> Case<'_> {
     Case {
@@ -98,7 +98,7 @@ const fn damages(flaws: &[Flaw], replies: usize, at: u32, word: u64) -> Case<'_>
     }
 }
 
-/// A read fails behind seven replies and three collections.
+/// A read fails after seven replies and three collections.
 const fn loses(flaws: &[Flaw]) -> Case<'_> {
     Case {
         flaws,

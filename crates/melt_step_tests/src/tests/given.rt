@@ -12,7 +12,7 @@ use std::alloc::Global;
 use std::fmt::Debug;
 use std::test::Fail;
 
-/// A collection of a run over a disk without homes. Of the words that are in use behind it so many are those of objects
+/// A collection of a run over a disk without homes. Of the words that are in use after it so many are those of objects
 /// that registers hold.
 pub(super) const fn copied(phase: Phase, held: u32, live: u32) -> Journal {
     Journal {
@@ -25,7 +25,7 @@ pub(super) const fn copied(phase: Phase, held: u32, live: u32) -> Journal {
     }
 }
 
-/// A Move behind which nothing is in use: it wrote so many Bodies, and the homes end before `end`.
+/// A Move after which nothing is in use: it wrote so many Bodies, and the homes end before `end`.
 pub(super) const fn emptied(bodies: u32, end: u32) -> Journal {
     Journal {
         phase: Phase::Move,
@@ -38,7 +38,7 @@ pub(super) const fn emptied(bodies: u32, end: u32) -> Journal {
 }
 
 /// The numbers of a run over so many words, in which objects leave once three quarters of them are in use. A silent
-/// collection comes behind each operation whose number is a multiple of `every`, which is 0 for none.
+/// collection comes after each operation whose number is a multiple of `every`, which is 0 for none.
 pub(super) fn usual(heap: u32, every: u32) -> Config
     requires least { 16 ≤ heap }
     requires most { heap ≤ 4194304 }

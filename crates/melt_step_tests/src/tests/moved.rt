@@ -73,7 +73,7 @@ pub(super) const JOURNAL_OF_THREE: [Journal; 5] = [
     },
 ];
 
-/// The home of an object that came back is a Stub behind the next collection, and names the object still.
+/// The home of an object that came back is a Stub after the next collection, and names the object still.
 const STUB: &[u8] =
     b"melt 1\nthreads 1\nglobals 2\nthread 0\nnew 0 0 1\nput 0 0 9\ngstore 0 0\ngstore 1 0\ndrop 0\n\
       collect\ncollect\ncollect\ngload 0 0\ncollect\ngload 1 1\nsame 0 1\ndone\n";

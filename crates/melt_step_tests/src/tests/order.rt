@@ -8,7 +8,7 @@ use melt_trace::parse;
 use std::alloc::{AllocError, Global};
 use std::test::Fail;
 
-/// Two threads and three lines of events. Behind the last line they take turns.
+/// Two threads and three lines of events. After the last line they take turns.
 const ORDERED: &[u8] =
     b"melt 1\nthreads 2\nglobals 1\norder 0 6\norder 1 2\norder 0 3\nthread 0\nnew 0 1 0\ngstore 0 0\ndone\n\
       thread 1\ngload 0 0\ngload 1 0\nsame 0 1\ndone\n";

@@ -20,7 +20,7 @@ const NO_RETURN: &[u8] =
     b"melt 1\nthreads 1\nglobals 1\nthread 0\nnew 0 0 8\ngstore 0 0\ndrop 0\ncollect\ncollect\ncollect\n\
       new 1 0 6\ngload 2 0\ndone\n";
 
-/// An object of 10 words is referred to by a global alone when one of 10 is made: it leaves behind two Moves that are
+/// An object of 10 words is referred to by a global alone when one of 10 is made: it leaves after two Moves that are
 /// forced.
 const FORCED: &[u8] =
     b"melt 1\nthreads 1\nglobals 1\nthread 0\nnew 0 0 8\ngstore 0 0\ndrop 0\nnew 1 0 8\ndone\n";

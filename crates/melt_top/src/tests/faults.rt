@@ -5,7 +5,7 @@ use std::alloc::Global;
 use std::test::Fail;
 use std::thread::Threads;
 
-/// How a story ends over a disk with flaws: behind so many of its replies these lines are written.
+/// How a story ends over a disk with flaws: after so many of its replies these lines are written.
 #[derive(Clone, Copy)]
 struct Ending<'a> {
     flaws: &'a [Flaw],

@@ -22,7 +22,7 @@ const PLACES: u32 = 64;
 /// Ten times this number, and a digit more, is still a `u64`.
 const MOST_TENS: u64 = u64::MAX / 10 - 1;
 
-/// A digit's value, and what stands behind it.
+/// A digit's value, and what stands after it.
 #[inline(always)]
 fn digit(bytes: &[u8]) -> Option<(u8, &[u8])>
     ensures text { IfSome result (λ x. bytes.now ≡ (48 + x.0) ∷ x.1.now) }
@@ -34,9 +34,9 @@ fn digit(bytes: &[u8]) -> Option<(u8, &[u8])>
     }
 }
 
-/// What stands behind this byte.
+/// What stands after this byte.
 #[inline(always)]
-fn behind(bytes: &[u8], byte: u8) -> Option<&[u8]>
+fn after_byte(bytes: &[u8], byte: u8) -> Option<&[u8]>
     ensures { IfSome result (λ rest. bytes.now ≡ byte ∷ rest.now) }
 {
     match bytes {
@@ -45,13 +45,13 @@ fn behind(bytes: &[u8], byte: u8) -> Option<&[u8]>
     }
 }
 
-/// A space and a number of one or two digits, below this limit, and what stands behind them.
+/// A space and a number of one or two digits, below this limit, and what stands after them.
 #[inline(always)]
 fn small(bytes: &[u8], limit: u32) -> Option<(u8, &[u8])>
     ensures text { IfSome result (λ x. bytes.now ≡ 32 ∷ (decimal x.0 ++ x.1.now)) }
     ensures low { IfSome result (λ x. x.0 < limit) }
 {
-    let (first, rest) = digit(behind(bytes, b' ')?)?;
+    let (first, rest) = digit(after_byte(bytes, b' ')?)?;
     match digit(rest) {
         None if u32::from(first) < limit => Some((first, rest)),
         Some((second, rest)) if first > 0 && u32::from(10 * first + second) < limit => {
@@ -61,11 +61,11 @@ fn small(bytes: &[u8], limit: u32) -> Option<(u8, &[u8])>
     }
 }
 
-/// A space and a number, and what stands behind them.
+/// A space and a number, and what stands after them.
 fn large(bytes: &[u8]) -> Option<(u64, &[u8])>
     ensures { IfSome result (λ x. bytes.now ≡ 32 ∷ (decimal x.0 ++ x.1.now)) }
 {
-    let (first, mut rest) = digit(behind(bytes, b' ')?)?;
+    let (first, mut rest) = digit(after_byte(bytes, b' ')?)?;
     let mut n = u64::from(first);
     while let Some((next, others)) = digit(rest) {
         if n == 0 || n > MOST_TENS {
@@ -77,7 +77,7 @@ fn large(bytes: &[u8]) -> Option<(u64, &[u8])>
     Some((n, rest))
 }
 
-/// A line's last two numbers, below these limits, and what stands behind the line.
+/// A line's last two numbers, below these limits, and what stands after the line.
 #[inline(always)]
 fn two(bytes: &[u8], a: u32, b: u32) -> Option<(u8, u8, &[u8])>
     ensures text { IfSome result (λ x. bytes.now ≡ line [] (x.0 ∷ x.1 ∷ []) ++ x.2.now) }
@@ -85,10 +85,10 @@ fn two(bytes: &[u8], a: u32, b: u32) -> Option<(u8, u8, &[u8])>
 {
     let (x, rest) = small(bytes, a)?;
     let (y, rest) = small(rest, b)?;
-    Some((x, y, behind(rest, b'\n')?))
+    Some((x, y, after_byte(rest, b'\n')?))
 }
 
-/// Three numbers, below these limits, and what stands behind their line.
+/// Three numbers, below these limits, and what stands after their line.
 #[inline(always)]
 fn three(bytes: &[u8], a: u32, b: u32, c: u32) -> Option<(u8, u8, u8, &[u8])>
     ensures text { IfSome result (λ x. bytes.now ≡ line [] (x.0 ∷ x.1 ∷ x.2 ∷ []) ++ x.3.now) }
@@ -128,14 +128,14 @@ fn canonical_short(bytes: &[u8], globals: u32) -> Option<(Op, &[u8])>
         }
         [b'd', b'r', b'o', b'p', rest @ ..] => {
             let (r, rest) = small(rest, REGISTERS)?;
-            Some((Op::Drop { r }, behind(rest, b'\n')?))
+            Some((Op::Drop { r }, after_byte(rest, b'\n')?))
         }
         [b'c', b'o', b'l', b'l', b'e', b'c', b't', b'\n', rest @ ..] => Some((Op::Collect, rest)),
         _ => None,
     }
 }
 
-/// The operation whose canonical line the bytes begin with, among this many globals, and what stands behind the line.
+/// The operation whose canonical line the bytes begin with, among this many globals, and what stands after the line.
 #[inline(always)]
 pub fn canonical_operation(bytes: &[u8], globals: u32) -> Option<(Op, &[u8])>
     ensures text { IfSome result (λ x. bytes.now ≡ op_line x.0 ++ x.1.now) }
@@ -146,7 +146,7 @@ pub fn canonical_operation(bytes: &[u8], globals: u32) -> Option<(Op, &[u8])>
             let (obj, rest) = small(rest, REGISTERS)?;
             let (j, rest) = small(rest, PLACES)?;
             let (v, rest) = large(rest)?;
-            Some((Op::Put { obj, j, v }, behind(rest, b'\n')?))
+            Some((Op::Put { obj, j, v }, after_byte(rest, b'\n')?))
         }
         [b'n', b'e', b'w', rest @ ..] => {
             let (dst, refs, nums, rest) = three(rest, REGISTERS, COUNTS, COUNTS)?;

@@ -4,7 +4,7 @@ ghost use Rattle.melt_trace.specs.Language.{after_repeat, after_end, after_done,
 ghost use Rattle.melt_trace.specs.Language.{after_operation, IsScript};
 ghost use Rattle.melt_trace.specs.Drafts.{place_of, IsSoundDraft, LeadsTo};
 
-use crate::language::Stage;
+use crate::language::Expected;
 use crate::parser::fault::Fault;
 use crate::reason::Reason;
 use crate::script::Item;
@@ -20,14 +20,14 @@ const MAX_ORDERS: usize = 65_536;
 
 const MAX_OPERATIONS: u32 = 1_048_576;
 
-/// What is wanted behind so many programs.
-fn behind(programs: usize, threads: u32) -> Stage
-    ensures { result ≡ (if programs == threads then Stage.Over else Stage.Between) }
+/// What is wanted after so many programs.
+fn expected_after(programs: usize, threads: u32) -> Expected
+    ensures { result ≡ (if programs == threads then Expected.Over else Expected.Between) }
 {
     if programs == threads as usize {
-        Stage::Over
+        Expected::Over
     } else {
-        Stage::Between
+        Expected::Between
     }
 }
 
@@ -41,7 +41,7 @@ pub struct Block {
 /// What the lines so far say. Counts of operations stay at the highest `u32` once they reach it.
 #[derive(Drop)]
 pub struct Draft {
-    pub stage: Stage,
+    pub stage: Expected,
     pub threads: u32,
     pub globals: u32,
     pub orders: Vec<(u32, u32)>,
@@ -58,7 +58,7 @@ pub struct Draft {
 
 impl Draft {
     /// No orders and no programs.
-    pub fn empty(alloc: Global, stage: Stage, threads: u32, globals: u32) -> Draft
+    pub fn empty(alloc: Global, stage: Expected, threads: u32, globals: u32) -> Draft
         requires { globals ≤ 64 }
         ensures place { place_of result ≡ record {
           stage = stage;
@@ -150,12 +150,12 @@ impl Draft {
             .push(Program::new(items, u64::from(self.count)))?;
         self.total = total;
         self.count = 0;
-        self.stage = behind(self.programs.len(), self.threads);
+        self.stage = expected_after(self.programs.len(), self.threads);
         Ok(())
     }
 
     /// Begins a stage in which no program has a line.
-    pub fn restart(&mut self, stage: Stage, threads: u32)
+    pub fn restart(&mut self, stage: Expected, threads: u32)
         requires { IsSoundDraft self.old }
         ensures place { place_of self.new ≡ record {
           stage = stage;

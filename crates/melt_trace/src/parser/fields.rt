@@ -6,7 +6,7 @@ ghost use Rattle.melt_trace.specs.Parsing.{AreArguments};
 
 use crate::parser::lines::place;
 
-/// The fields of a line behind its first one.
+/// The fields of a line after its first one.
 #[derive(Drop)]
 pub enum Arguments<'a> {
     None,
@@ -39,7 +39,7 @@ fn start(bytes: &[u8]) -> Option<usize>
     None
 }
 
-/// The first field, and what stands behind it.
+/// The first field, and what stands after it.
 pub fn next_field(bytes: &[u8]) -> Option<(&[u8], &[u8])>
     ensures { MatchOption result (fields_of bytes.now ≡ []) (λ x. fields_of bytes.now ≡ x.0.now ∷ fields_of x.1.now) }
 {
@@ -53,7 +53,7 @@ pub fn next_field(bytes: &[u8]) -> Option<(&[u8], &[u8])>
     }
 }
 
-/// The fields of what stands behind the first one of a line.
+/// The fields of what stands after the first one of a line.
 pub fn other_fields(bytes: &[u8]) -> Arguments<'_>
     ensures { AreArguments result (fields_of bytes.now) }
 {

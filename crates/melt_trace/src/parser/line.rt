@@ -4,7 +4,7 @@ ghost use Rattle.melt_trace.specs.Language.{after, after_fields, has_open, fits,
 ghost use Rattle.melt_trace.specs.Parsing.{AreArguments, after_arguments};
 ghost use Rattle.melt_trace.specs.Drafts.{place_of, IsSoundDraft, LeadsTo};
 
-use crate::language::{Stage, Word};
+use crate::language::{Expected, Word};
 use crate::parser::draft::Draft;
 use crate::parser::fault::Fault;
 use crate::parser::fields::{Arguments, is_printable_line, next_field, other_fields};
@@ -42,9 +42,9 @@ fn may_stand(draft: &Draft, word: Word) -> bool
     ensures { result ≡ fits draft.now.stage (place_of draft.now).blocks word }
 {
     match draft.stage {
-        Stage::Orders => matches!(word, Word::Order | Word::Thread),
-        Stage::Between => matches!(word, Word::Thread),
-        Stage::Inside => may_stand_inside(draft, word),
+        Expected::Orders => matches!(word, Word::Order | Word::Thread),
+        Expected::Between => matches!(word, Word::Thread),
+        Expected::Inside => may_stand_inside(draft, word),
         _ => false,
     }
 }
@@ -77,7 +77,7 @@ fn take_word(
         Word::Thread => {
             let _thread = one(arguments, Limits::only(draft.programs.len() as u64))?;
             let threads = draft.threads;
-            draft.restart(Stage::Inside, threads);
+            draft.restart(Expected::Inside, threads);
             Ok(())
         }
         Word::Order => {
@@ -103,34 +103,34 @@ fn take_fields(
         → LeadsTo result draft.new (after_fields (place_of draft.old) draft.old.stage (first.now ∷ fields)) }
 {
     match draft.stage {
-        Stage::Version => {
+        Expected::Version => {
             let limits = Limits {
                 low: 1,
                 high: 1,
                 reason: Reason::NoVersion,
             };
             let _version = heading(first, arguments, b"melt", limits)?;
-            draft.restart(Stage::Threads, 0);
+            draft.restart(Expected::Threads, 0);
             Ok(())
         }
-        Stage::Threads => {
+        Expected::Threads => {
             let limits = Limits {
                 low: 1,
                 high: MAX_THREADS,
                 reason: Reason::NoThreads,
             };
             let threads = heading(first, arguments, b"threads", limits)?;
-            draft.restart(Stage::Globals, threads as u32);
+            draft.restart(Expected::Globals, threads as u32);
             Ok(())
         }
-        Stage::Globals => {
+        Expected::Globals => {
             let limits = Limits {
                 low: 0,
                 high: MAX_GLOBALS,
                 reason: Reason::NoGlobals,
             };
             let globals = heading(first, arguments, b"globals", limits)?;
-            *draft = Draft::empty(alloc, Stage::Orders, draft.threads, globals as u32);
+            *draft = Draft::empty(alloc, Expected::Orders, draft.threads, globals as u32);
             Ok(())
         }
         _ => match word(first) {

@@ -16,7 +16,7 @@ pub fn place(bytes: &[u8], byte: u8) -> Option<usize>
     None
 }
 
-/// The first line, where there is a byte, and what stands behind it.
+/// The first line, where there is a byte, and what stands after it.
 pub fn next_line(bytes: &[u8]) -> (&[u8], &[u8])
     requires { 0 < length bytes.now }
     ensures line { lines_of bytes.now ≡ result.0.now ∷ lines_of result.1.now }

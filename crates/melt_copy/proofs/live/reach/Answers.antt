@@ -52,7 +52,7 @@ visits g c objects counts =
     omega (
       arith,
       few g c objects counts,
-      c.find_front.ensures.visits,
+      c.begin_with_held.ensures.visits,
       c.find_words.ensures.visits,
       c.live_scions.ensures.visits,
       c.find_scions.ensures.visits,

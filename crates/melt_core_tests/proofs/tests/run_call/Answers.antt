@@ -3,7 +3,7 @@ use Rattle.std.specs.Prelude.{false}
 use Rattle.melt_scion.specs.Heaps.{no_homes_on}
 use Rattle.melt_core.specs.declared.answer.StepResult.TheVariants.{Going}
 use Rattle.melt_core.specs.Views.{view}
-use Rattle.melt_core.specs.Advances.{Goes}
+use Rattle.melt_core.specs.Advances.{CallGoesOn}
 use Rattle.melt_core_tests.proofs.Onward.{KeepsOthers_both, IsOver, event_over, going, going_continues, going_nearer}
 use Rattle.melt_core_tests.proofs.tests.run_call.Goals as goal
 
@@ -31,7 +31,7 @@ loop-events-preserved c =
     let t = c.args.thread in
     let kept = c.loop-events.invariant in
     let is : c.advance.result ≡ Going = c.in-Going.is in
-    let goes : Goes no_homes_on v w t c.args.op = going (Unit {0}) no_homes_on v w t c.args.op is
+    let goes : CallGoesOn no_homes_on v w t c.args.op = going (Unit {0}) no_homes_on v w t c.args.op is
     c.advance.ensures.outcome in
     let few : length v.forward ≤ 16 = omega (arith, kept.1.forwards, c.requires.forwards) in (
       c.advance.ensures.keeps false (λ told. tt) kept.0,

@@ -6,7 +6,7 @@ use Rattle.melt_rule.specs.declared.view.Doing.{Doing}
 use Rattle.melt_rule.specs.declared.view.View.{View}
 use Rattle.melt_epoch.proofs.Toward.{searches_within, toward_filled, toward_goes, toward_on}
 use Rattle.melt_epoch.specs.Bringing.{in_use_at}
-use Rattle.melt_epoch.specs.Calls.{Goes}
+use Rattle.melt_epoch.specs.Calls.{IsOnItsWay}
 use Rattle.melt_epoch.proofs.bring.seek.Goals as goal
 
 pub returns-in-None-clause-seeks : goal.returns-in-None-clause-seeks
@@ -28,7 +28,7 @@ returns-in-Some-clause-seeks c =
     let u = knows_of c.probe.new.seat in
     let t = c.loop-search.search.tried in
     let most = c.args.forwards - c.args.search.tried in
-    subst (λ (d : Doing). Goes v u 0 0 most d)
+    subst (λ (d : Doing). IsOnItsWay v u 0 0 most d)
     (ap (λ (s : Search). in_use_at s c.in-Some.address) loop.search)
     (toward_goes most (let f = loop.from in let more = c.loop-search-test.true in omega arith) loop.toward
     (c.in-Some.ensures.probes.0 c.if-home-search.true))

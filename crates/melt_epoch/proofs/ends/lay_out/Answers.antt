@@ -1,20 +1,20 @@
 use Rattle.std.proofs.Common.{◌≡◌, ℕ, ◌+◌, List, ◌++◌, ◌∙◌, ap, append_assoc, length, subst}
 use Rattle.melt_scion.specs.declared.heap.Heap.{Heap}
 use Rattle.melt_space.specs.Space.{AreWords, SpaceWords}
-use Rattle.melt_rule.specs.Shown.{front}
+use Rattle.melt_rule.specs.Shown.{leading_words}
 use Rattle.melt_epoch.proofs.Laid.{all_words}
 use Rattle.melt_epoch.proofs.ends.lay_out.Goals as goal
 
 pub returns : goal.returns
 returns c =
     let heap = c.args.heap.now in
-    let begin : List ℕ = front 0 (heap.space.used + 1) in
+    let begin : List ℕ = leading_words 0 (heap.space.used + 1) in
     let used : c.used.result + 1 ≡ heap.space.used + 1 = ap (λ (n : ℕ). n + 1) c.used.ensures.value
     ∙ ap (λ (h : Heap). h.space.used + 1) c.heap.view_is in
     let first : c.extend_from_slice.new.self.items ≡ begin =
     c.in_ok-extend_from_slice.ensures.items
-    ∙ (ap (λ (l : List ℕ). l ++ c.front.result) c.new-words.ensures.items
-    ∙ (c.front.ensures ∙ ap (front 0) used)) in
+    ∙ (ap (λ (l : List ℕ). l ++ c.leading_words.result) c.new-words.ensures.items
+    ∙ (c.leading_words.ensures ∙ ap (leading_words 0) used)) in
     let globals : c.extend_from_slice-2.new.self.items ≡ begin ++ heap.globals =
     c.in_ok-extend_from_slice-2.ensures.items
     ∙ (ap (λ (l : List ℕ). l ++ c.deref.result.now) first

@@ -10,7 +10,7 @@ use Rattle.melt_rule.specs.declared.view.View.{View}
 use Rattle.melt_epoch.proofs.Following.{idle_seat, sound_adds, sound_sees}
 use Rattle.melt_epoch.proofs.Making.{claimed_way, lacked_it, made_it, stopped_sees}
 use Rattle.melt_epoch.proofs.Plainly.{asked_counts, asked_idle}
-use Rattle.melt_epoch.specs.Calls.{FillsRegion, LacksRoom}
+use Rattle.melt_epoch.specs.Calls.{FillsRegion, LacksRoomToMake}
 use Rattle.melt_epoch.proofs.make.make_object.Goals as goal
 
 pub returns-then-poll-clause-seat : goal.returns-then-poll-clause-seat
@@ -46,7 +46,7 @@ returns-in_default-clause-makes c =
     let x = knows_of c.stop.new.seat in
     let is : c.cost-need.result ≡ cost_of c.args.shape = c.cost-need.ensures in
     let lacks : Lacks w u (cost_of c.args.shape) = subst (Lacks w u) is c.in_default.ensures.tells in
-    inr (subst (λ (n : ℕ). LacksRoom v x c.args.shape (Pause (Space n))) (sym is)
+    inr (subst (λ (n : ℕ). LacksRoomToMake v x c.args.shape (Pause (Space n))) (sym is)
     (lacked_it v w u x c.args.shape c.requires.seat.sound c.if-poll.ensures.polls lacks c.stop.ensures.stops))
 
 pub fill-requires-clause-sound : goal.fill-requires-clause-sound

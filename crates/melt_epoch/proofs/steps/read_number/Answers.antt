@@ -70,11 +70,11 @@ returns-clause-plain c rs src names =
     let v = knows_of c.args.seat.now in
     let x = knows_of c.load_number.new.seat in
     let act = Read (Cell h.object c.args.j) (Num c.load_number.result) in
-    let behind = opened_ends x act h (c.load_number.ensures.reads h.object h.known) in
+    let after = opened_ends x act h (c.load_number.ensures.reads h.object h.known) in
     record {
-      comes = adds_replies x rs rs (Get src c.args.j) (reply.Num c.load_number.result) behind.adds
+      comes = adds_replies x rs rs (Get src c.args.j) (reply.Num c.load_number.result) after.adds
           (λ told. get_answers v.thread _ src c.args.j c.load_number.result c.load_header-shape.result h.is
-          (behind.shaped told) (let b = c.if-j-shape.false in omega arith) refl refl refl);
-      counts = behind.counts;
+          (after.shaped told) (let b = c.if-j-shape.false in omega arith) refl refl refl);
+      counts = after.counts;
       refused = tt;
     }

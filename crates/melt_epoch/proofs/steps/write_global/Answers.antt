@@ -45,9 +45,9 @@ returns-clause-seat c =
     (names_more v.known w.known c.args.held c.requires.held.0 (λ a n has. polled_knows v w a n polls has)
     c.requires.held.1) in
     let act = Write (Global c.args.g) c.requires.held.0 in
-    let behind = ends_polled v w x act c.requires.seat.sound polls ends in
-    ended_idle c.args.words.now v w c.store_global.new.seat act behind.0
-    (counts_most v x 0 0 2 3 (omega arith) behind.1) ends c.store_global.ensures.seat
+    let after = ends_polled v w x act c.requires.seat.sound polls ends in
+    ended_idle c.args.words.now v w c.store_global.new.seat act after.0
+    (counts_most v x 0 0 2 3 (omega arith) after.1) ends c.store_global.ensures.seat
 
 pub returns-clause-plain : goal.returns-clause-plain
 returns-clause-plain c rs src names =
@@ -58,10 +58,10 @@ returns-clause-plain c rs src names =
     let ends = c.store_global.ensures.writes (value_in rs src)
     (names_more v.known w.known c.args.held (value_in rs src) (λ a n has. polled_knows v w a n polls has) names) in
     let act = Write (Global c.args.g) (value_in rs src) in
-    let behind = ends_polled v w x act c.requires.seat.sound polls ends in
+    let after = ends_polled v w x act c.requires.seat.sound polls ends in
     record {
-      comes = adds_replies x rs rs (GStore c.args.g src) reply.Done behind.0
+      comes = adds_replies x rs rs (GStore c.args.g src) reply.Done after.0
           (λ told. gstore_answers v.thread _ c.args.g src refl refl refl refl);
-      counts = behind.1;
+      counts = after.1;
       refused = tt;
     }

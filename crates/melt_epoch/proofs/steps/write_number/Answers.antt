@@ -70,11 +70,11 @@ returns-clause-plain c rs obj names =
     let v = knows_of c.args.seat.now in
     let x = knows_of c.store_number.new.seat in
     let act = Write (Cell h.object c.args.j) (Num c.args.word) in
-    let behind = opened_ends x act h (c.store_number.ensures.writes h.object h.known) in
+    let after = opened_ends x act h (c.store_number.ensures.writes h.object h.known) in
     record {
-      comes = adds_replies x rs rs (Put obj c.args.j c.args.word) reply.Done behind.adds
-          (λ told. put_answers v.thread _ obj c.args.j c.args.word c.load_header-shape.result h.is (behind.shaped told)
+      comes = adds_replies x rs rs (Put obj c.args.j c.args.word) reply.Done after.adds
+          (λ told. put_answers v.thread _ obj c.args.j c.args.word c.load_header-shape.result h.is (after.shaped told)
           (let b = c.if-j-shape.false in omega arith) refl refl refl);
-      counts = behind.counts;
+      counts = after.counts;
       refused = tt;
     }

@@ -87,11 +87,11 @@ returns-clause-plain c rs obj src names held =
     let x = knows_of c.store_slot.new.seat in
     let value = value_in rs src in
     let act = Write (Field h.object c.args.i) value in
-    let behind = opened_ends x act h (c.store_slot.ensures.writes h.object value h.known (still at value held)) in
+    let after = opened_ends x act h (c.store_slot.ensures.writes h.object value h.known (still at value held)) in
     record {
-      comes = adds_replies x rs rs (Store obj c.args.i src) reply.Done behind.adds
-          (λ told. store_answers v.thread _ obj c.args.i src c.load_header-shape.result h.is (behind.shaped told)
+      comes = adds_replies x rs rs (Store obj c.args.i src) reply.Done after.adds
+          (λ told. store_answers v.thread _ obj c.args.i src c.load_header-shape.result h.is (after.shaped told)
           (let b = c.if-i-shape.false in omega arith) refl refl refl refl);
-      counts = behind.counts;
+      counts = after.counts;
       refused = tt;
     }

@@ -2,7 +2,7 @@ ghost use Rattle.std.specs.Prelude.{◌≡◌, ◌^◌, ◌<◌, ℕ, false, len
 ghost use Rattle.melt_scion.specs.Heaps.{IsNewHeap};
 ghost use Rattle.melt_epoch.specs.Tests.{AllMayStart, HasBegun, HasSizes, MayStart};
 
-use crate::stage::call;
+use crate::scene::call;
 use melt_core::{Pause, Refusal};
 use melt_epoch::{Epoch, Mutator};
 use melt_io::{Failed, RecordReader};
@@ -153,7 +153,7 @@ fn expect(
     Ok(())
 }
 
-/// Makes calls so in an epoch on a new heap of so many words, globals and forwarding words. Answers the heap behind it.
+/// Makes calls so in an epoch on a new heap of so many words, globals and forwarding words. Answers the heap after it.
 pub(super) fn expect_in(
     alloc: Global,
     words: u32,

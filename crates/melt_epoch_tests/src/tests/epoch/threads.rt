@@ -3,7 +3,7 @@ ghost use Rattle.melt_epoch.specs.Tests.{AllMayStart, HasBegun, MayCall};
 
 use super::given::{NoDisk, begun, eight_mutators, two_mutators};
 use crate::play::{Signals, number_at};
-use crate::stage::call;
+use crate::scene::call;
 use crate::tests::calls::{gload, gstore, new, put};
 use crate::tests::judge::Deed;
 use crate::tests::judged::{is_legal, loads, stores};
@@ -71,8 +71,8 @@ fn all_share_objects<R: Abort + Threads + Sync>(
     thread::for_each_mut(rt, mutators, 8, &share);
 }
 
-/// Lets mutators do so in an epoch on a new heap of so many words. Answers how many of them are in use behind it.
-fn used_behind<R: Abort + Threads + Sync>(
+/// Lets mutators do so in an epoch on a new heap of so many words. Answers how many of them are in use after it.
+fn used_after<R: Abort + Threads + Sync>(
     rt: &R,
     alloc: Global,
     words: u32,
@@ -90,7 +90,7 @@ fn used_behind<R: Abort + Threads + Sync>(
 #[test]
 fn two_threads_make_objects_and_share_them(rt: HostRuntime) -> Result<(), Fail> {
     let mut mutators = two_mutators();
-    same(used_behind(&rt, rt.alloc(), 1024, &mut mutators), Ok(400))
+    same(used_after(&rt, rt.alloc(), 1024, &mut mutators), Ok(400))
 }
 
 /// How often eight threads do so; `bench/rounds` tries more.
@@ -100,7 +100,7 @@ const ROUNDS: u32 = 100;
 fn eight_threads_make_objects_and_share_them(rt: HostRuntime) -> Result<(), Fail> {
     for round in 0..ROUNDS {
         let mut mutators = eight_mutators();
-        let used = used_behind(&rt, rt.alloc(), 2048, &mut mutators);
+        let used = used_after(&rt, rt.alloc(), 2048, &mut mutators);
         same((round, used), (round, Ok(1600)))?;
     }
     Ok(())
@@ -127,7 +127,7 @@ fn number_in(thread: usize, r: u8) -> u64 {
     }
 }
 
-/// Stores both objects in the global, and loads it behind each. Writes down the numbers in what it found.
+/// Stores both objects in the global, and loads it after each. Writes down the numbers in what it found.
 fn store_and_load<R: Abort>(rt: &R, epoch: &Epoch, m: &mut Mutator<NoDisk>, found: &[AtomicU64; 2])
     requires global { 1 ≡ epoch.now.words.start.began.globals }
     requires may { MayCall (λ _. Some []) epoch.now.words m.old }

@@ -1,6 +1,6 @@
 use Rattle.std.proofs.Common.{◌≡◌, ℕ, ◌+◌, ◌-◌, ◌*◌, length, ap, ◌∙◌, arith}
 use Rattle.melt_gen.specs.declared.workload.Workload.TheVariants as workload
-use Rattle.melt_gen.specs.Workloads.{drawn, state_behind, rounds, round_of}
+use Rattle.melt_gen.specs.Workloads.{drawn, state_after, rounds, round_of}
 use Rattle.melt_gen.proofs.Lengths.{length-next_round, length-queue}
 use Rattle.melt_gen.proofs.counts.queue_count.Goals as goal
 
@@ -10,7 +10,7 @@ loop-k-preserved c =
     let front = c.front_count.ensures.value c.args.draws c.loop-k.invariant.draws in
     let back : k ≡ k + 1 - 1 = omega arith in
     record {
-      draws = front.0 ∙ ap (state_behind c.args.draws) back;
+      draws = front.0 ∙ ap (state_after c.args.draws) back;
       count = λ t. omega (
         arith,
         length-next_round (round_of workload.Queue t (drawn c.args.draws)) k,

@@ -2,7 +2,7 @@ use Rattle.std.proofs.Common.{◌≡◌, ℕ, [], ◌∷◌, ◌++◌, map, rule
 use Rattle.melt_trace.specs.declared.script.Item.TheVariants as item
 use Rattle.melt_gen.specs.declared.workload.Workload.TheVariants as workload
 use Rattle.melt_gen.specs.Workloads.{drawn, list_end, round_of, operations_of, rounds}
-use Rattle.melt_gen.proofs.Writing.{round_written, behind, draw_is, next_state_is}
+use Rattle.melt_gen.proofs.Writing.{round_written, written_after, draw_is, next_state_is}
 use Rattle.melt_gen.proofs.programs.list.Goals as goal
 
 pub loop-k-preserved : goal.loop-k-preserved
@@ -23,6 +23,6 @@ unfolding operations_of
 returns c =
     let round = round_of workload.List c.args.thread (drawn c.args.draws) in
     let all : c.loop-k.k ≡ c.args.size = omega arith in
-    behind [] _ _ (rounds round c.loop-k.k) (list_end c.args.thread) c.in_ok-push_list_end.ensures
+    written_after [] _ _ (rounds round c.loop-k.k) (list_end c.args.thread) c.in_ok-push_list_end.ensures
     c.loop-k.invariant.items
     ∙ ap (λ (n : ℕ). map item.Op (rounds round n ++ list_end c.args.thread)) all

@@ -1,8 +1,8 @@
 use Rattle.std.proofs.Common.{◌≡◌, ℕ, ◌+◌, ◌-◌, ◌*◌, [], ◌∷◌, ◌++◌, map, refl, ap, ◌∙◌, arith}
 use Rattle.melt_trace.specs.declared.script.Item.TheVariants as item
 use Rattle.melt_gen.specs.declared.workload.Workload.TheVariants as workload
-use Rattle.melt_gen.specs.Workloads.{drawn, front_round, operations_of, round_of, rounds, state_behind}
-use Rattle.melt_gen.proofs.Writing.{round_written, behind}
+use Rattle.melt_gen.specs.Workloads.{drawn, front_round, operations_of, round_of, rounds, state_after}
+use Rattle.melt_gen.proofs.Writing.{round_written, written_after}
 use Rattle.melt_gen.proofs.programs.queue.Goals as goal
 
 pub loop-k-preserved : goal.loop-k-preserved
@@ -23,10 +23,10 @@ loop-k-preserved c =
       c.store-in-loop-k.ensures,
       c.gstore.ensures,
     ) refl in
-    let both = behind c.loop-k.items.items _ _ object more front.1 c.in_ok-push_all.ensures in
+    let both = written_after c.loop-k.items.items _ _ object more front.1 c.in_ok-push_all.ensures in
     let back : k ≡ k + 1 - 1 = omega arith in
     record {
-      draws = front.0 ∙ ap (state_behind c.args.draws) back;
+      draws = front.0 ∙ ap (state_after c.args.draws) back;
       items = round_written [] [] round k both same c.loop-k.invariant.items;
     }
 
@@ -36,6 +36,6 @@ returns c =
     let round = round_of workload.Queue c.args.thread (drawn c.args.draws) in
     let all : c.loop-k.k ≡ c.args.size = omega arith in
     let ops = c.drop.result ∷ c.drop-2.result ∷ c.drop-3.result ∷ [] in
-    behind [] _ _ (rounds round c.loop-k.k) ops c.in_ok-push_all-2.ensures c.loop-k.invariant.items
+    written_after [] _ _ (rounds round c.loop-k.k) ops c.in_ok-push_all-2.ensures c.loop-k.invariant.items
     ∙ ap (λ (n : ℕ). map item.Op (rounds round n ++ ops)) all
     ∙ rw (c.drop.ensures, c.drop-2.ensures, c.drop-3.ensures) refl

@@ -2,7 +2,7 @@ use Rattle.std.proofs.Common.{◌≡◌, ℕ, ◌+◌, ◌/◌, [], ◌∷◌, �
 use Rattle.melt_trace.specs.declared.script.Item.TheVariants as item
 use Rattle.melt_gen.specs.declared.workload.Workload.TheVariants as workload
 use Rattle.melt_gen.specs.Workloads.{drawn, look_round, operations_of, round_of, rounds, table_start}
-use Rattle.melt_gen.proofs.Writing.{round_written, behind, draw_is, next_state_is}
+use Rattle.melt_gen.proofs.Writing.{round_written, written_after, draw_is, next_state_is}
 use Rattle.melt_gen.proofs.programs.table.Goals as goal
 
 pub loop-k-preserved : goal.loop-k-preserved
@@ -27,7 +27,7 @@ loop-k-preserved c =
       c.store-in-loop-k.ensures,
       ← word,
     ) refl in
-    let both = behind c.loop-k.items.items _ _ object more look.1 c.in_ok-push_all-2.ensures in
+    let both = written_after c.loop-k.items.items _ _ object more look.1 c.in_ok-push_all-2.ensures in
     record {
       draws = look.0;
       items = round_written [] (table_start c.args.thread) round k both same c.loop-k.invariant.items;
@@ -39,7 +39,7 @@ returns c =
     let round = round_of workload.Table c.args.thread (drawn c.args.draws) in
     let all : c.loop-k.k ≡ c.args.size = omega arith in
     let ops = c.drop.result ∷ c.drop-2.result ∷ c.drop-3.result ∷ [] in
-    behind [] _ _ (table_start c.args.thread ++ rounds round c.loop-k.k) ops c.in_ok-push_all-3.ensures
+    written_after [] _ _ (table_start c.args.thread ++ rounds round c.loop-k.k) ops c.in_ok-push_all-3.ensures
     c.loop-k.invariant.items
     ∙ ap (λ (n : ℕ). map item.Op ((table_start c.args.thread ++ rounds round n) ++ ops)) all
     ∙ rw (c.drop.ensures, c.drop-2.ensures, c.drop-3.ensures) refl

@@ -1,12 +1,12 @@
 use Rattle.std.proofs.Common.{◌≡◌, ◌+◌, ◌/◌, ◌++◌, map}
 use Rattle.melt_trace.specs.declared.script.Item.TheVariants as item
 use Rattle.melt_gen.specs.declared.workload.Workload.TheVariants as workload
-use Rattle.melt_gen.specs.Workloads.{drawn, round_of, rounds, state_behind, table_start}
+use Rattle.melt_gen.specs.Workloads.{drawn, round_of, rounds, state_after, table_start}
 use Rattle.melt_gen.proofs.programs.table.Given as goal
 
 abbrev pub invariant-loop-k : goal.invariant-loop-k
 invariant-loop-k l = record {
-  draws : l.draws ≡ state_behind l.fn.draws (l.k + l.k / 16);
+  draws : l.draws ≡ state_after l.fn.draws (l.k + l.k / 16);
   items : l.items.items ≡ map item.Op
       (table_start l.thread ++ rounds (round_of workload.Table l.thread (drawn l.fn.draws)) l.k);
 }

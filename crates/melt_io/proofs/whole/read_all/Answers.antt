@@ -1,6 +1,6 @@
 use Rattle.std.proofs.Common.{arith, ◌≡◌, ◌+◌, ◌≤◌, length, vec_len}
 use Rattle.std.proofs.lemmas.Result.{err_from_is_err_and}
-use Rattle.melt_io.proofs.Told.{TakesFront-nothing, TakesFront-on, TakesFront-all, TakesCount-front, TakesCount-behind}
+use Rattle.melt_io.proofs.Told.{TakesFront-nothing, TakesFront-on, TakesFront-all, TakesCount-front, TakesCount-after}
 use Rattle.melt_io.proofs.whole.read_all.Goals as goal
 
 pub loop-bytes-init : goal.loop-bytes-init
@@ -22,7 +22,7 @@ returns-in_err-read_more-clause-front g c =
     in (
       length bytes.items + front.0,
       within,
-      TakesCount-behind _ _ _ _ _ c.loop-bytes.invariant.taken front.2,
+      TakesCount-after _ _ _ _ _ c.loop-bytes.invariant.taken front.2,
       (
         (λ h. omega (arith, len, front.3.0 (cc (out.1, out.2)))),
         (λ h. let told = front.3.1 (omega (arith, len)) in cc (out.1, out.2, told)),

@@ -28,8 +28,8 @@ loop-word-preserved g c =
           (subst (λ (w : ℕ). BecomesHome s c.args.decision.now w c.encode_slot.result) same
           (c.encode_slot.ensures.becomes s (leaving_ref_at c.args.space.now s c.args.decision.now c.args.words.now
           c.loop-word.words n are (omega arith) same)));
-      rest = λ i behind. rest_stays c.loop-word.words n c.encode_slot.result i behind
-          ∙ c.loop-word.invariant.rest i (omega (arith, behind));
+      rest = λ i after. rest_stays c.loop-word.words n c.encode_slot.result i after
+          ∙ c.loop-word.invariant.rest i (omega (arith, after));
       visits = omega (arith, c.loop-word.invariant.visits, c.tick.ensures);
     }
 

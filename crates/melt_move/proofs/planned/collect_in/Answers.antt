@@ -49,7 +49,7 @@ returns-in-Ok g c =
     let collected : Collects c.args.heap c.args.held.now c.collect_copy.new.heap c.collect_copy.new.held phase journal =
     c.in-Ok.ensures.collected in
     let told : Journals journal phase c.collect_copy.new.heap.space.used =
-    (collected.each formed.maps formed.disk formed.names formed.formed).told in
+    (collected.each formed.maps formed.disk formed.names formed.formed).journals in
     let bodies = told.no_bodies in
     let stubs = told.no_stubs in
     let none : 0 ≡ journal.bodies + journal.stubs = omega (arith, bodies, stubs) in

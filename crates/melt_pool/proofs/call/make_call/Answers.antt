@@ -102,7 +102,7 @@ returns-in-Same-clause-called g c =
     (Ok c.same.result)) (sym c.in-Same.is)
     (local_called read.image read.faults words.start.began.told heap.scions finish c.args.m.now c.args.m.now words
     (Same c.in-Same.a c.in-Same.b) c.same.result c.requires.seated refl
-    (λ h tells. c.same.ensures.told words h c.requires.seated tells))
+    (λ h tells. c.same.ensures.answers words h c.requires.seated tells))
 
 pub returns-in-Copy-clause-called : goal.returns-in-Copy-clause-called
 returns-in-Copy-clause-called g c =
@@ -115,7 +115,7 @@ returns-in-Copy-clause-called g c =
     c.copy_reg.new.self o (Ok c.copy_reg.result)) (sym c.in-Copy.is)
     (local_called read.image read.faults words.start.began.told heap.scions finish c.args.m.now c.copy_reg.new.self
     words (Copy c.in-Copy.dst c.in-Copy.src) c.copy_reg.result c.requires.seated c.copy_reg.ensures.seat
-    (λ h tells. c.copy_reg.ensures.told h))
+    (λ h tells. c.copy_reg.ensures.answers h))
 
 pub returns-in-Drop-clause-called : goal.returns-in-Drop-clause-called
 returns-in-Drop-clause-called g c =
@@ -128,7 +128,7 @@ returns-in-Drop-clause-called g c =
     c.drop_reg.new.self o (Ok c.drop_reg.result)) (sym c.in-Drop.is)
     (local_called read.image read.faults words.start.began.told heap.scions finish c.args.m.now c.drop_reg.new.self
     words (Drop c.in-Drop.r) c.drop_reg.result c.requires.seated c.drop_reg.ensures.seat
-    (λ h tells. c.drop_reg.ensures.told h))
+    (λ h tells. c.drop_reg.ensures.answers h))
 
 pub returns-in-New-clause-keeps : goal.returns-in-New-clause-keeps
 returns-in-New-clause-keeps g c =

@@ -23,7 +23,7 @@ collect_heap-requires-after_bounds g c κs within = record {
   may = c.requires.may;
 }
 
--- the registers of the machine behind the collection
+-- the registers of the machine after the collection
 abbrev after : (g : Over) (c : In-Ok g) → List Registers
 after g c = (with_items c.args.machine.registers c.collect_heap.new.registers).items
 

@@ -6,7 +6,7 @@ use Rattle.melt_pool.specs.Epochs.{AllMayRun, AllRest, Ended}
 use Rattle.melt_pool.specs.Firsts.{AllCame}
 use Rattle.melt_pool.specs.Workers.{image_of}
 use Rattle.melt_pool.specs.declared.first.First.TheVariants.{Went, Lacked, Stopped}
-use Rattle.melt_pool.proofs.Behind.{came_seated, may_call}
+use Rattle.melt_pool.proofs.After.{came_seated, may_call}
 use Rattle.melt_pool.proofs.Ending.{lacked_ends, never_stopped_first, went_ends}
 use Rattle.melt_pool.proofs.Passing.{all_end, all_joined}
 use Rattle.melt_pool.proofs.epoch.run_epoch.Goals as goal

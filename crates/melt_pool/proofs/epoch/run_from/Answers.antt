@@ -2,11 +2,11 @@ use Rattle.std.proofs.Common.{ℕ, sym, subst}
 use Rattle.std.proofs.lemmas.Option.{slice_get_within}
 use Rattle.std.specs.Prelude.{IfSome, Option}
 use Rattle.melt_pool.specs.Firsts.{AllRunFrom, MayCallAt}
-use Rattle.melt_pool.proofs.Behind.{all_run}
+use Rattle.melt_pool.proofs.After.{all_run}
 use Rattle.melt_pool.proofs.epoch.run_from.Goals as goal
 
-pub run_behind-requires-clause-place : goal.run_behind-requires-clause-place
-run_behind-requires-clause-place g c κs within =
+pub run_after-requires-clause-place : goal.run_after-requires-clause-place
+run_after-requires-clause-place g c κs within =
     let calls = subst (λ (o : Option ℕ). IfSome o (MayCallAt c.args.mutators.now)) c.in-Some.is c.requires.first in
     slice_get_within c.args.mutators.now c.in-Some.t calls.0 calls.1
 

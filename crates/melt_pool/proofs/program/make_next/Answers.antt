@@ -8,7 +8,7 @@ use Rattle.melt_epoch.specs.declared.mutator.Mutator.{Mutator}
 use Rattle.melt_safepoint.specs.Modes.{owes}
 use Rattle.melt_safepoint.specs.declared.thread.Mode.TheVariants.{Collecting, Running, Silent}
 use Rattle.melt_safepoint.specs.declared.thread.ThreadState.{ThreadState}
-use Rattle.melt_pool.specs.Programs.{GoesOn, HasEndedWell, Works}
+use Rattle.melt_pool.specs.Programs.{ThreadWentOn, HasEndedWell, Works}
 use Rattle.melt_pool.proofs.Going.{asked_caused, asked_goes, asked_works, called_caused, called_ends, called_goes}
 use Rattle.melt_pool.proofs.Going.{called_nearer, called_thread, called_works, reader_stays}
 use Rattle.melt_pool.proofs.Onward.{collecting_few, silent_few}
@@ -76,7 +76,7 @@ returns-in-Running-Some g c =
       nearer = called_nearer read.image read.faults c.requires.works.0 words heap.scions finish m n s after op answer
           runs next took;
       goes_on = λ script works.
-          subst (λ (x : Mutator _). GoesOn c.args.every script m x s after) (sym c.take_result.ensures.dropped)
+          subst (λ (x : Mutator _). ThreadWentOn c.args.every script m x s after) (sym c.take_result.ensures.dropped)
           (called_goes read.image read.faults script words heap.scions finish m n s c.args.every p.reader q.reader after
           op answer works runs next other seated p.there q.there called took c.take_result.ensures.owes
           c.take_result.ensures.due);

@@ -3,7 +3,7 @@ use Rattle.std.proofs.Common.{◌≡◌}
 use Rattle.melt_trace.specs.Script.{Script}
 use Rattle.melt_epoch.specs.Mutators.{HasReader}
 use Rattle.melt_safepoint.specs.Modes.{IsEnded}
-use Rattle.melt_pool.specs.Programs.{GoesOn, HasEndedWell, WaitsByCause, Works, made_again, turns_left}
+use Rattle.melt_pool.specs.Programs.{ThreadWentOn, HasEndedWell, WaitsByCause, Works, made_again, turns_left}
 use Rattle.melt_pool.proofs.program.run_program.Given as goal
 
 abbrev pub invariant-loop-is_announced : goal.invariant-loop-is_announced
@@ -17,7 +17,7 @@ invariant-loop-is_announced g l = record {
   reader : HasReader g.R.RecordReader.image l.epoch.words l.m;
   thread : l.m.thread ≡ l.fn.m.thread;
   goes_on : (script : Script) → Works script l.fn.epoch.words l.fn.m (made_again l.fn.state)
-      → GoesOn l.every script l.fn.m l.m l.fn.state l.state;
+      → ThreadWentOn l.every script l.fn.m l.m l.fn.state l.state;
   caused : WaitsByCause l.fn.state.mode l.state.mode l.m;
 }
 

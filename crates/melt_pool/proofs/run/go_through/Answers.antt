@@ -1,4 +1,4 @@
--- The mutators are armed for the epoch, and behind it all is taken from them that they brought.
+-- The mutators are armed for the epoch, and after it all is taken from them that they brought.
 use Rattle.std.proofs.Common.{◌≡◌, ◌≤◌, ℕ, length, sym, ◌∙◌, subst, arith}
 use Rattle.std.specs.Prelude.{Bool}
 use Rattle.melt_trace.specs.Script.{Script}
@@ -38,9 +38,9 @@ are_armed g c =
 some : (g : Over) (c : After-hand_out g) → 1 ≤ length c.hand_out.new.mutators
 some g c = omega (arith, c.requires.some, c.hand_out.ensures.handed.count)
 
-pub go_on-requires-clause-rest : goal.go_on-requires-clause-rest
-go_on-requires-clause-rest g c κs within =
-    let at = (goal.at.go_on-requires-clause-rest g c).After-hand_out in
+pub resume-requires-clause-rest : goal.resume-requires-clause-rest
+resume-requires-clause-rest g c κs within =
+    let at = (goal.at.resume-requires-clause-rest g c).After-hand_out in
     let may = c.requires.may in
     subst (λ (n : ℕ). IsAtRest (image_of g.D.Reader.RecordReader.image) c.args.paused.told c.args.paused.heap
     c.args.paused.pass n c.hand_out.new.mutators) (sym c.requires.end)
@@ -62,15 +62,15 @@ rest g c =
     c.args.registers.now c.args.states.now.items may.0 may.1 c.args.every c.hand_out.new.mutators c.requires.nameless
     (are_armed g c) (some g c) may.2
 
-pub go_on-requires-clause-threads : goal.go_on-requires-clause-threads
-go_on-requires-clause-threads g c κs within =
+pub resume-requires-clause-threads : goal.resume-requires-clause-threads
+resume-requires-clause-threads g c κs within =
     subst (λ (n : ℕ). (script : Script) × AllRest script (start_of (image_of g.D.Reader.RecordReader.image)
     c.args.paused.told c.args.paused.heap c.args.paused.pass n c.hand_out.new.mutators).began c.hand_out.new.mutators)
-    (sym c.requires.end) (rest g (goal.at.go_on-requires-clause-threads g c).After-hand_out)
+    (sym c.requires.end) (rest g (goal.at.resume-requires-clause-threads g c).After-hand_out)
 
-pub go_on-requires-clause-first : goal.go_on-requires-clause-first
-go_on-requires-clause-first g c κs within =
-    let at = (goal.at.go_on-requires-clause-first g c).After-hand_out in
+pub resume-requires-clause-first : goal.resume-requires-clause-first
+resume-requires-clause-first g c κs within =
+    let at = (goal.at.resume-requires-clause-first g c).After-hand_out in
     let may = c.requires.may in
     begins_first g.D.Reader.RecordReader.image g.D.Reader.RecordReader.faults
     (shown_by g.D.StaleDisk.image c.args.space.now) c.args.first c.args.paused.told c.args.paused.heap
@@ -78,27 +78,27 @@ go_on-requires-clause-first g c κs within =
     c.args.registers.now c.args.states.now.items may.0 may.1 c.args.every c.hand_out.new.mutators c.requires.nameless
     (are_armed g at) (some g at) may.2
 
--- what stands behind the epoch, by what the run shows of the disk
+-- what stands after the epoch, by what the run shows of the disk
 ended : (g : Over) (c : In_ok-paused g)
     → Ended g.D.Reader.RecordReader.image g.D.Reader.RecordReader.faults c.args.space.now.end c.args.every c.args.first
     (start_of (image_of g.D.Reader.RecordReader.image) c.args.paused.told c.args.paused.heap c.args.paused.pass
-    c.args.space.now.end c.hand_out.new.mutators).began c.hand_out.new.mutators c.go_on.new.mutators
+    c.args.space.now.end c.hand_out.new.mutators).began c.hand_out.new.mutators c.resume.new.mutators
     c.in_ok-paused.paused.heap c.in_ok-paused.paused.pass c.in_ok-paused.lacks
 ended g c =
     subst (λ (n : ℕ). Ended g.D.Reader.RecordReader.image g.D.Reader.RecordReader.faults n c.args.every c.args.first
     (start_of (image_of g.D.Reader.RecordReader.image) c.args.paused.told c.args.paused.heap c.args.paused.pass n
-    c.hand_out.new.mutators).began c.hand_out.new.mutators c.go_on.new.mutators c.in_ok-paused.paused.heap
+    c.hand_out.new.mutators).began c.hand_out.new.mutators c.resume.new.mutators c.in_ok-paused.paused.heap
     c.in_ok-paused.paused.pass c.in_ok-paused.lacks) c.requires.end c.in_ok-paused.ensures.ended
 
 pub take_back-requires-clause-room : goal.take_back-requires-clause-room
 take_back-requires-clause-room g c =
     let at = goal.at.take_back-requires-clause-room g c in
-    let count : length c.go_on.new.mutators ≡ length c.hand_out.new.mutators =
+    let count : length c.resume.new.mutators ≡ length c.hand_out.new.mutators =
     leaves_count g.D.Reader.RecordReader.image g.D.Reader.RecordReader.faults
     (shown_by g.D.StaleDisk.image c.args.space.now)
     c.args.paused.told c.args.paused.heap c.args.paused.pass c.args.registers.now c.args.states.now.items
     c.hand_out.new.mutators c.requires.nameless (are_armed g at.After-hand_out) (some g at.After-hand_out) c.args.every
-    c.in_ok-paused.paused.heap c.in_ok-paused.paused.pass c.go_on.new.mutators (rest g at.After-hand_out) c.args.first
+    c.in_ok-paused.paused.heap c.in_ok-paused.paused.pass c.resume.new.mutators (rest g at.After-hand_out) c.args.first
     c.in_ok-paused.lacks (ended g at.In_ok-paused) in
     omega (
       arith,
@@ -114,12 +114,12 @@ pub take_back-requires-clause-as_many : goal.take_back-requires-clause-as_many
 take_back-requires-clause-as_many g c =
     let at = goal.at.take_back-requires-clause-as_many g c in
     let r = c.requires.ready in
-    let count : length c.go_on.new.mutators ≡ length c.hand_out.new.mutators =
+    let count : length c.resume.new.mutators ≡ length c.hand_out.new.mutators =
     leaves_count g.D.Reader.RecordReader.image g.D.Reader.RecordReader.faults
     (shown_by g.D.StaleDisk.image c.args.space.now)
     c.args.paused.told c.args.paused.heap c.args.paused.pass c.args.registers.now c.args.states.now.items
     c.hand_out.new.mutators c.requires.nameless (are_armed g at.After-hand_out) (some g at.After-hand_out) c.args.every
-    c.in_ok-paused.paused.heap c.in_ok-paused.paused.pass c.go_on.new.mutators (rest g at.After-hand_out) c.args.first
+    c.in_ok-paused.paused.heap c.in_ok-paused.paused.pass c.resume.new.mutators (rest g at.After-hand_out) c.args.first
     c.in_ok-paused.lacks (ended g at.In_ok-paused) in
     omega (arith, count, c.hand_out.ensures.handed.count, r.lent.count, r.away.count)
 
@@ -130,7 +130,7 @@ take_back-requires-clause-bring g c κs within =
     (shown_by g.D.StaleDisk.image c.args.space.now)
     c.args.paused.told c.args.paused.heap c.args.paused.pass c.args.registers.now c.args.states.now.items
     c.hand_out.new.mutators c.requires.nameless (are_armed g at.After-hand_out) (some g at.After-hand_out) c.args.every
-    c.in_ok-paused.paused.heap c.in_ok-paused.paused.pass c.go_on.new.mutators (rest g at.After-hand_out) c.args.first
+    c.in_ok-paused.paused.heap c.in_ok-paused.paused.pass c.resume.new.mutators (rest g at.After-hand_out) c.args.first
     c.in_ok-paused.lacks (ended g at.In_ok-paused)
 
 pub returns-clause-nameless : goal.returns-clause-nameless
@@ -140,7 +140,7 @@ returns-clause-nameless g c =
     (shown_by g.D.StaleDisk.image c.args.space.now)
     c.args.paused.told c.args.paused.heap c.args.paused.pass c.args.registers.now c.args.states.now.items
     c.hand_out.new.mutators c.requires.nameless (are_armed g at.After-hand_out) (some g at.After-hand_out) c.args.every
-    c.in_ok-paused.paused.heap c.in_ok-paused.paused.pass c.go_on.new.mutators (rest g at.After-hand_out) c.args.first
+    c.in_ok-paused.paused.heap c.in_ok-paused.paused.pass c.resume.new.mutators (rest g at.After-hand_out) c.args.first
     c.in_ok-paused.lacks (ended g at.In_ok-paused)
 
 -- each thread had its 16 registers
@@ -159,7 +159,7 @@ returns-clause-away g c =
     (shown_by g.D.StaleDisk.image c.args.space.now)
     c.args.paused.told c.args.paused.heap c.args.paused.pass c.args.registers.now c.args.states.now.items
     c.hand_out.new.mutators c.requires.nameless (are_armed g at.After-hand_out) (some g at.After-hand_out) c.args.every
-    c.in_ok-paused.paused.heap c.in_ok-paused.paused.pass c.go_on.new.mutators (rest g at.After-hand_out) c.args.first
+    c.in_ok-paused.paused.heap c.in_ok-paused.paused.pass c.resume.new.mutators (rest g at.After-hand_out) c.args.first
     c.in_ok-paused.lacks (ended g at.In_ok-paused)
     c.take_back.new.states.items c.take_back.new.registers c.take_back.new.mutators c.take_back.ensures.disarmed
     (sized g at.After-hand_out) (omega (arith, c.hand_out.ensures.handed.count, r.lent.count, r.away.few))
@@ -176,7 +176,7 @@ returns-clause-ends g c = λ collector room may.
     (shown_by g.D.StaleDisk.image c.args.space.now)
     c.args.paused.told c.args.paused.heap c.args.paused.pass c.args.registers.now c.args.states.now.items
     c.hand_out.new.mutators c.requires.nameless (are_armed g at.After-hand_out) (some g at.After-hand_out) c.args.every
-    c.in_ok-paused.paused.heap c.in_ok-paused.paused.pass c.go_on.new.mutators (rest g at.After-hand_out) c.args.first
+    c.in_ok-paused.paused.heap c.in_ok-paused.paused.pass c.resume.new.mutators (rest g at.After-hand_out) c.args.first
     c.in_ok-paused.lacks (ended g at.In_ok-paused)
     c.take_back.new.states.items c.take_back.new.registers c.take_back.new.mutators c.take_back.ensures.disarmed
     (sized g at.After-hand_out) collector room may)
@@ -189,13 +189,13 @@ returns-clause-lost g c =
     (shown_by g.D.StaleDisk.image c.args.space.now) c.args.paused.told c.args.paused.heap c.args.paused.pass
     c.args.registers.now c.args.states.now.items c.hand_out.new.mutators c.requires.nameless
     (are_armed g at.After-hand_out) (some g at.After-hand_out) c.args.every c.in_ok-paused.paused.heap
-    c.in_ok-paused.paused.pass c.go_on.new.mutators (rest g at.After-hand_out) c.take_back.ensures.disarmed may.0 may.1
+    c.in_ok-paused.paused.pass c.resume.new.mutators (rest g at.After-hand_out) c.take_back.ensures.disarmed may.0 may.1
     c.args.first c.in_ok-paused.lacks may.2 (ended g at.In_ok-paused)
     (leaves_ends g.D.Reader.RecordReader.image g.D.Reader.RecordReader.faults
     (shown_by g.D.StaleDisk.image c.args.space.now)
     c.args.paused.told c.args.paused.heap c.args.paused.pass c.args.registers.now c.args.states.now.items
     c.hand_out.new.mutators c.requires.nameless (are_armed g at.After-hand_out) (some g at.After-hand_out) c.args.every
-    c.in_ok-paused.paused.heap c.in_ok-paused.paused.pass c.go_on.new.mutators (rest g at.After-hand_out) c.args.first
+    c.in_ok-paused.paused.heap c.in_ok-paused.paused.pass c.resume.new.mutators (rest g at.After-hand_out) c.args.first
     c.in_ok-paused.lacks (ended g at.In_ok-paused) c.take_back.new.states.items c.take_back.new.registers
     c.take_back.new.mutators
     c.take_back.ensures.disarmed (sized g at.After-hand_out) may.0 may.1 may.2) c.take_back.ensures.read_faults

@@ -3,7 +3,7 @@ use Rattle.std.specs.Prelude.{None, Some}
 use Rattle.melt_epoch.specs.declared.mutator.Mutator.{Mutator}
 use Rattle.melt_safepoint.specs.Modes.{IsEnded}
 use Rattle.melt_safepoint.specs.declared.thread.ThreadState.{ThreadState}
-use Rattle.melt_pool.specs.Programs.{GoesOn, WaitsByCause, Works, made_again}
+use Rattle.melt_pool.specs.Programs.{ThreadWentOn, WaitsByCause, Works, made_again}
 use Rattle.melt_pool.proofs.Running.{back_as_was, brings_one, has_run, worker_reads, works_with}
 use Rattle.melt_pool.proofs.worker.run_worker.Goals as goal
 
@@ -64,8 +64,9 @@ returns-clause-runs g c =
           back_as_was m there had (as_was.1
           ∙ is) now n_is as_was.0) (λ goes. c.run_program.ensures.ends script began
           (λ over. goes (subst (λ (y : ThreadState). IsEnded y.mode) (sym same) over))) (subst
-          (λ (x : Mutator _). GoesOn c.args.every script x r s c.run_program.new.state) is
-          (subst (λ (y : ThreadState). GoesOn c.args.every script c.set_reader.new.self r y c.run_program.new.state)
+          (λ (x : Mutator _). ThreadWentOn c.args.every script x r s c.run_program.new.state) is
+          (subst (λ (y : ThreadState). ThreadWentOn c.args.every script c.set_reader.new.self r y
+          c.run_program.new.state)
           (sym same) (c.run_program.ensures.goes_on script began)))
           (subst (λ (y : ThreadState). WaitsByCause y.mode c.run_program.new.state.mode r) (sym same)
           c.run_program.ensures.caused);

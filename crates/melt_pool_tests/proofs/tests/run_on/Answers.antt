@@ -14,8 +14,8 @@ use Rattle.melt_pool_tests.proofs.tests.run_on.Goals as goal
 abbrev none : Worker NoDisk → Option (List ℕ)
 none worker = Some []
 
-pub go_on-requires-clause-rest : goal.go_on-requires-clause-rest
-go_on-requires-clause-rest g c κs within =
+pub resume-requires-clause-rest : goal.resume-requires-clause-rest
+resume-requires-clause-rest g c κs within =
     let ms = c.args.mutators.now in
     let heap = c.args.heap in
     let threads : List ℕ = 0 ∷ 1 ∷ [] in
@@ -29,8 +29,8 @@ go_on-requires-clause-rest g c κs within =
     subst (λ (told : Bool). IsAtRest none told heap c.new.result 1 ms) (sym c.pick.ensures)
     (subst (λ (h : List Entry). IsAtRest none true heap h 1 ms) (sym c.new.ensures) rests)
 
-pub go_on-requires-clause-threads : goal.go_on-requires-clause-threads
-go_on-requires-clause-threads g c κs within =
+pub resume-requires-clause-threads : goal.resume-requires-clause-threads
+resume-requires-clause-threads g c κs within =
     let ms = c.args.mutators.now in
     let new = c.requires.new in
     let globals : length c.args.heap.globals ≡ 1 = ap length c.requires.heap.globals_hold_nothing in

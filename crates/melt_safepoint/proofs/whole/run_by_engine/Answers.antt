@@ -17,11 +17,11 @@ use Rattle.melt_safepoint.proofs.whole.run_by_engine.Goals.{in-Ok, in-Err-Halted
 
 -- what is left of the run stands, over what is shown then
 left : (g : Over) (c : Joined-run_all g)
-    → StopsRun (g.S.Space.sees.shown c.args.space.now) (g.S.Space.sees.shown c.run_all.new.space)
+    → StopsRun (g.S.DiskSpace.sees.shown c.args.space.now) (g.S.DiskSpace.sees.shown c.run_all.new.space)
     (row_of g.E.Machine.view c.args.run) (Halted c.match-run_all.ended)
 left g c =
-    let Stops : Stop → Type 0 = StopsRun (g.S.Space.sees.shown c.args.space.now)
-    (g.S.Space.sees.shown c.run_all.new.space) (row_of g.E.Machine.view c.args.run) in
+    let Stops : Stop → Type 0 = StopsRun (g.S.DiskSpace.sees.shown c.args.space.now)
+    (g.S.DiskSpace.sees.shown c.run_all.new.space) (row_of g.E.Machine.view c.args.run) in
     elim c.match-run_all.branch [
       | in-Ok w ↦ subst (λ (e : Ended). Stops (Halted e)) (sym w.ended-is) w.in-Ok.ensures.ended
       | in-Err-Halted w ↦ subst (λ (e : Ended). Stops (Halted e)) (sym w.ended-is)
@@ -31,13 +31,13 @@ left g c =
 -- with its counts
 counted : (g : Over) (c : Joined-run_all g)
     → StopCounts (Halted c.match-run_all.ended) c.args.run.states.items
-    (g.S.Space.sees.faults c.args.space.now) (g.S.Space.sees.faults c.run_all.new.space)
-    (g.S.Space.sees.read_faults c.args.space.now) (g.S.Space.sees.read_faults c.run_all.new.space)
+    (g.S.DiskSpace.sees.faults c.args.space.now) (g.S.DiskSpace.sees.faults c.run_all.new.space)
+    (g.S.DiskSpace.sees.read_faults c.args.space.now) (g.S.DiskSpace.sees.read_faults c.run_all.new.space)
 counted g c =
     let Counts : Stop → Type 0 = λ stop. StopCounts stop c.args.run.states.items
-    (g.S.Space.sees.faults c.args.space.now) (g.S.Space.sees.faults c.run_all.new.space)
-    (g.S.Space.sees.read_faults c.args.space.now)
-    (g.S.Space.sees.read_faults c.run_all.new.space) in
+    (g.S.DiskSpace.sees.faults c.args.space.now) (g.S.DiskSpace.sees.faults c.run_all.new.space)
+    (g.S.DiskSpace.sees.read_faults c.args.space.now)
+    (g.S.DiskSpace.sees.read_faults c.run_all.new.space) in
     elim c.match-run_all.branch [
       | in-Ok w ↦ subst (λ (e : Ended). Counts (Halted e)) (sym w.ended-is) (
         λ is. absurd (let none : None ≡ Some halt.DiskFault = sym w.in-Ok.ensures.done ∙ is in cc),
@@ -55,7 +55,7 @@ run_all-requires g c κs =
 pub report-requires : goal.report-requires
 report-requires g c =
     let stands = c.requires.begins.stands in (
-      g.S.Space.sees.shown c.run_all.new.space,
+      g.S.DiskSpace.sees.shown c.run_all.new.space,
       (stands.1, stands.2, ended_untold (left g c stands.0 stands.1 stands.2 stands.3)),
     )
 
@@ -63,7 +63,7 @@ pub returns-clause-has_run : goal.returns-clause-has_run
 returns-clause-has_run g c =
     let at = (goal.at.returns-clause-has_run g c).Joined-run_all in
     IfOk-weaker c.report.result _ _
-    (λ done has told script config stands. has told script config (g.S.Space.sees.shown c.run_all.new.space)
+    (λ done has told script config stands. has told script config (g.S.DiskSpace.sees.shown c.run_all.new.space)
     (left g at told script config stands)) c.report.ensures.has_run
 
 pub returns-clause-counts : goal.returns-clause-counts
@@ -76,12 +76,12 @@ returns-clause-counts g c =
 
 -- how often readers were lent
 lent : (g : Over) (c : Joined-run_all g) (n : ℕ)
-    → LendsEach g.C.Fn g.F.Fn g.E.Machine.view g.E.Machine.stored g.S.Space.sees c.args.engine.now n
-    → LendsTwice n 1 (g.S.Space.sees.lends c.args.space.now) (g.S.Space.sees.lends c.run_all.new.space)
+    → LendsEach g.C.Fn g.F.Fn g.E.Machine.view g.E.Machine.stored g.S.DiskSpace.sees c.args.engine.now n
+    → LendsTwice n 1 (g.S.DiskSpace.sees.lends c.args.space.now) (g.S.DiskSpace.sees.lends c.run_all.new.space)
     (journal_of (row_of g.E.Machine.view c.args.run)) c.match-run_all.ended.journal.items
 lent g c n each =
-    let Lends : Stop → Type 0 = StopTwice n 1 (g.S.Space.sees.lends c.args.space.now)
-    (g.S.Space.sees.lends c.run_all.new.space) (journal_of (row_of g.E.Machine.view c.args.run)) in
+    let Lends : Stop → Type 0 = StopTwice n 1 (g.S.DiskSpace.sees.lends c.args.space.now)
+    (g.S.DiskSpace.sees.lends c.run_all.new.space) (journal_of (row_of g.E.Machine.view c.args.run)) in
     elim c.match-run_all.branch [
       | in-Ok w ↦ subst (λ (e : Ended). Lends (Halted e)) (sym w.ended-is) (w.in-Ok.ensures.lends n each)
       | in-Err-Halted w ↦ subst (λ (e : Ended). Lends (Halted e)) (sym w.ended-is)

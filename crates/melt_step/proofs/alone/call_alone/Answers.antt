@@ -23,7 +23,7 @@ use Rattle.melt_step.proofs.LoneCalls.{never_pauses}
 use Rattle.melt_safepoint.proofs.WordsMade.{made_ended}
 use Rattle.melt_step.proofs.alone.call_alone.Goals as goal
 
--- an event of the call makes what comes into use, also behind those before it
+-- an event of the call makes what comes into use, also after those before it
 event_makes : {image before : Option (List ℕ)} {finish : ℕ} {u v w : View} {t : ℕ} {o : Op} {result : StepResult}
     → before ≡ image → MakesInUse finish image u v
     → ((disk : OnDisk) → Underlies true finish image disk → Standing true disk u → Standing true disk v)

@@ -1,4 +1,4 @@
--- The call goes on from the beginning, and each event has fewer behind it.
+-- The call goes on from the beginning, and each event has fewer after it.
 use Rattle.std.proofs.Common.{◌≡◌, ◌≤◌}
 use Rattle.std.specs.Prelude.{Bool}
 use Rattle.melt_scion.specs.Heaps.{OnDisk}

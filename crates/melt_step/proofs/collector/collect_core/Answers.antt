@@ -1,4 +1,4 @@
--- The registers that were lent are those of the rest, before the collection and behind it.
+-- The registers that were lent are those of the rest, before the collection and after it.
 use Rattle.std.proofs.Common.{◌≡◌, Bool, sym, ◌∙◌, ap, subst}
 use Rattle.std.specs.Option.{is_some}
 use Rattle.melt_model.specs.declared.reports.Phase.{Phase}

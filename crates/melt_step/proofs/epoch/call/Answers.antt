@@ -38,9 +38,9 @@ call_alone-requires g c =
           (alone_ready c.in-Some.op c.requires.awaits.3.1.3 was c.in-Some.is c.requires.stop);
     }
 
--- the run behind the call
-behind : (g : Over) → After-call_alone g → Row
-behind g c = record {
+-- the run after the call
+later : (g : Over) → After-call_alone g → Row
+later g c = record {
   view = view c.call_alone.new.core;
   states = (with_item c.args.run.now.states c.args.thread c.call_alone.new.state).items;
   collector = c.args.run.now.collector;
@@ -52,8 +52,8 @@ behind g c = record {
 -- what the call did to it
 makes : (g : Over) (c : After-call_alone g) (shown : Shown) → shown.end ≡ c.args.end
     → shown.image ≡ g.R.RecordReader.image c.args.reader.now
-    → MakesCall shown (row_of core_view c.args.run.now) (behind g c) c.args.thread c.call_alone.result
-unfolding behind
+    → MakesCall shown (row_of core_view c.args.run.now) (later g c) c.args.thread c.call_alone.result
+unfolding later
 makes g c shown ends shows = record {
   s = c.index_mut-state.result.now;
   after = c.call_alone.new.state;
@@ -73,7 +73,7 @@ makes g c shown ends shows = record {
 }
 
 pub returns-clause-called : goal.returns-clause-called
-unfolding behind
+unfolding later
 returns-clause-called g c = λ shown ends shows.
     let here = (goal.at.returns-clause-called g c).After-call_alone in
     calls_first c.call_alone.result c.requires.awaits.3.1

@@ -1,5 +1,5 @@
 -- What stood at the beginning stands on, over the same words, and nothing or less is to do. Core and state are taken out
--- of the run, which has them back behind the loop.
+-- of the run, which has them back after the loop.
 use Rattle.std.proofs.Common.{◌≡◌, ◌≤◌, ℕ, List}
 use Rattle.std.specs.Prelude.{IfSome, slice_set}
 use Rattle.melt_core.specs.Views.{View, stores, view}

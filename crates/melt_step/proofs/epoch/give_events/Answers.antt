@@ -7,23 +7,25 @@ use Rattle.melt_safepoint.specs.Losses.{CountsLosses}
 use Rattle.melt_safepoint.specs.Rows.{Row, row_of}
 use Rattle.melt_safepoint.specs.Tables.{KnowsStop}
 use Rattle.melt_safepoint.proofs.Losses.{counts_then}
-use Rattle.melt_step.specs.Going.{Goes, SomeGoes, core_view}
+use Rattle.melt_step.specs.Going.{StandsInside, SomeStandsInside, core_view}
 use Rattle.melt_step.proofs.Going.{some_on}
 use Rattle.melt_step.proofs.epoch.give_events.Goals as goal
 use Rattle.melt_step.proofs.epoch.give_events.Goals.{After-take_turn, else-thread-last-via-else-thread-last}
 use Rattle.melt_step.proofs.epoch.give_events.Goals.{else-thread-last-via-then-thread-last+else-gives_all}
 use Rattle.melt_step.proofs.epoch.give_events.Given.{Over}
 
--- behind the event the run stands as before
+-- after the event the run stands as before
 stands : (g : Over) (c : After-take_turn g)
-    → SomeGoes c.args.end (g.R.RecordReader.image c.take_turn.new.reader) (row_of core_view c.take_turn.new.run)
+    → SomeStandsInside c.args.end (g.R.RecordReader.image c.take_turn.new.reader) (row_of core_view c.take_turn.new.run)
 stands g c =
-    let before : SomeGoes c.args.end (g.R.RecordReader.image c.args.reader.now) (row_of core_view c.loop-thread.run) =
+    let before : SomeStandsInside c.args.end (g.R.RecordReader.image c.args.reader.now) (row_of core_view
+    c.loop-thread.run) =
     some_on c.args.end _ (row_of core_view c.args.run.now) (row_of core_view c.loop-thread.run) c.requires.stands
     c.loop-thread.invariant.keeps in
     let same : g.R.RecordReader.image c.take_turn.new.reader ≡ g.R.RecordReader.image c.args.reader.now =
     c.take_turn.ensures.image ∙ c.loop-thread.invariant.image in
-    subst (λ (image : Option (List ℕ)). SomeGoes c.args.end image (row_of core_view c.take_turn.new.run)) (sym same)
+    subst (λ (image : Option (List ℕ)). SomeStandsInside c.args.end image (row_of core_view c.take_turn.new.run)) (sym
+    same)
     (some_on c.args.end _ (row_of core_view c.loop-thread.run) (row_of core_view c.take_turn.new.run) before
     (λ shown ends shows. c.take_turn.ensures.keeps shown ends (shows ∙ sym c.loop-thread.invariant.image)))
 
@@ -56,7 +58,7 @@ loop-thread-preserved g c =
     let turn = c.take_turn.ensures in
     record {
       keeps = λ shown ends shows told script config goes.
-          subst (Goes told script config shown) (sym row)
+          subst (StandsInside told script config shown) (sym row)
           (turn.keeps shown ends (shows ∙ sym before.image) told script config
           (before.keeps shown ends shows told script config goes));
       stop = subst (λ (r : Row). KnowsStop r.view r.states) (sym row) turn.stop;

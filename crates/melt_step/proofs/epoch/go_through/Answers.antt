@@ -1,4 +1,4 @@
--- The threads go on, behind the call of one that lacked room or at once.
+-- The threads go on, after the call of one that lacked room or at once.
 use Rattle.std.proofs.Common.{◌≡◌, ℕ, ◌<◌, Some, sym, ◌∙◌, subst, arith}
 use Rattle.std.specs.Prelude.{Option}
 use Rattle.melt_safepoint.specs.Epochs.{EndsEpoch, SomeMayRun, to_do}
@@ -7,7 +7,7 @@ use Rattle.melt_safepoint.specs.Shown.{Shown}
 use Rattle.melt_safepoint.proofs.Safepoints.{called_own}
 use Rattle.melt_safepoint.proofs.ToDo.{called_less}
 use Rattle.melt_step.specs.Going.{CallsFirst, MadeCall, core_view}
-use Rattle.melt_step.proofs.Going.{runs_all, runs_behind}
+use Rattle.melt_step.proofs.Going.{runs_all, runs_after}
 use Rattle.melt_step.proofs.epoch.go_through.Given.{Over}
 use Rattle.melt_step.proofs.epoch.go_through.Goals as goal
 use Rattle.melt_step.proofs.epoch.go_through.Goals.{In-None-call}
@@ -34,9 +34,9 @@ fewer g c =
     called_less c.args.run.now.states.items c.call.new.run.states.items c.in-Some.thread awaits.waits.0 awaits.waits.1
     (made g c c.requires.may.0 c.requires.may.1 c.requires.may.2).called
 
-pub go_on-requires-in-None-call : goal.go_on-requires-in-None-call
-go_on-requires-in-None-call g c =
-    let here = (goal.at.go_on-requires-in-None-call g c).In-None-call in
+pub run_events-requires-in-None-call : goal.run_events-requires-in-None-call
+run_events-requires-in-None-call g c =
+    let here = (goal.at.run_events-requires-in-None-call g c).In-None-call in
     let may = awaited g here in
     let awaits = may.3.1 in
     let called = made g here c.requires.may.0 c.requires.may.1 c.requires.may.2 in (
@@ -58,17 +58,19 @@ go_on-requires-in-None-call g c =
 
 pub returns-in-None-clause-ends : goal.returns-in-None-clause-ends
 returns-in-None-clause-ends g c = λ shown ends shows.
-    runs_all shown c.args.first (row_of core_view c.args.run.now) (row_of core_view c.go_on.new.run) c.in-None.is
-    (c.go_on.ensures.keeps shown ends shows) c.go_on.ensures.rests c.go_on.ensures.less c.go_on.ensures.collector
+    runs_all shown c.args.first (row_of core_view c.args.run.now) (row_of core_view c.run_events.new.run) c.in-None.is
+    (c.run_events.ensures.keeps shown ends shows) c.run_events.ensures.rests c.run_events.ensures.less
+    c.run_events.ensures.collector
 
 pub returns-in-None-call-clause-ends : goal.returns-in-None-call-clause-ends
 returns-in-None-call-clause-ends g c = λ shown ends shows.
     let here = (goal.at.returns-in-None-call-clause-ends g c).In-None-call in
-    runs_behind shown c.args.first c.in-Some.thread (row_of core_view c.args.run.now) (row_of core_view c.call.new.run)
-    (row_of core_view c.go_on-in-None-call.new.run) c.in-Some.is (made g here shown ends shows) (fewer g here)
+    runs_after shown c.args.first c.in-Some.thread (row_of core_view c.args.run.now) (row_of core_view c.call.new.run)
+    (row_of core_view c.run_events-in-None-call.new.run) c.in-Some.is (made g here shown ends shows) (fewer g here)
     c.call.ensures.collector
-    (c.go_on-in-None-call.ensures.keeps shown ends (shows ∙ sym c.call.ensures.image))
-    c.go_on-in-None-call.ensures.rests c.go_on-in-None-call.ensures.less c.go_on-in-None-call.ensures.collector
+    (c.run_events-in-None-call.ensures.keeps shown ends (shows ∙ sym c.call.ensures.image))
+    c.run_events-in-None-call.ensures.rests c.run_events-in-None-call.ensures.less
+    c.run_events-in-None-call.ensures.collector
 
 pub returns-in-Some-call-clause-ends : goal.returns-in-Some-call-clause-ends
 returns-in-Some-call-clause-ends g c = λ shown ends shows.

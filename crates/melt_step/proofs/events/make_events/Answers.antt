@@ -7,7 +7,7 @@ use Rattle.melt_core.specs.declared.answer.Refusal.TheVariants.{Damaged}
 use Rattle.melt_core.specs.declared.answer.StepResult.{StepResult}
 use Rattle.melt_core.specs.declared.answer.StepResult.TheVariants.{Answered, Going, Refused}
 use Rattle.melt_core.specs.declared.call.Call.{Call}
-use Rattle.melt_core.specs.Advances.{Advances, IsDamage, MayAdvance, Moves, MovesBy, MovesOn}
+use Rattle.melt_core.specs.Advances.{Advances, IsDamage, MayAdvance, MakesEvent, MakesEventsBy, MakesEvents}
 use Rattle.melt_core.specs.Stages.{NeedsNoRead}
 use Rattle.melt_core.specs.Views.{Standing, call_in, call_of, stage_in, stage_of, view}
 use Rattle.melt_core.proofs.Disks.{moves_advance}
@@ -25,7 +25,7 @@ use Rattle.melt_step.proofs.events.make_events.Goals.{After-call_at_once}
 use Rattle.melt_step.proofs.events.make_events.Given.{Over}
 
 -- the last event of the call, over each disk that is seen so
-last : (g : Over) (c : After-call_at_once g) (result : StepResult) → MovesOn (view c.args.core.now)
+last : (g : Over) (c : After-call_at_once g) (result : StepResult) → MakesEvents (view c.args.core.now)
     (view c.call_at_once.new.self) c.args.thread c.in-Some.op result → (told : Bool) (disk : OnDisk)
     → Standing told disk (view c.args.core.now)
     → LastEvent told disk (view c.args.core.now) (view c.call_at_once.new.self) c.args.thread c.in-Some.op result
@@ -34,7 +34,7 @@ last g c result on told disk stands =
     (gone_none told disk (view c.args.core.now) c.args.thread stands) on.moves
 
 -- and over the one for which the thread is ready
-here : (g : Over) (c : After-call_at_once g) (result : StepResult) → MovesOn (view c.args.core.now)
+here : (g : Over) (c : After-call_at_once g) (result : StepResult) → MakesEvents (view c.args.core.now)
     (view c.call_at_once.new.self) c.args.thread c.in-Some.op result
     → LastEvent false c.requires.ready.disk (view c.args.core.now) (view c.call_at_once.new.self) c.args.thread
     c.in-Some.op result
@@ -48,7 +48,7 @@ stops : (g : Over) (c : After-call_at_once g) (result : StepResult) → (event :
 stops g c result event same = same ∙ event.gone.stop
 
 -- the thread is there
-there : (g : Over) (c : After-call_at_once g) (result : StepResult) → MovesOn (view c.args.core.now)
+there : (g : Over) (c : After-call_at_once g) (result : StepResult) → MakesEvents (view c.args.core.now)
     (view c.call_at_once.new.self) c.args.thread c.in-Some.op result
     → c.args.thread < length (view c.call_at_once.new.self).held
 there g c result on =
@@ -63,10 +63,10 @@ none g c = (c.in-Some.ensures).first
 
 -- a call that is refused is so in its first event
 only : (g : Over) (c : After-call_at_once g) (why : Rattle.melt_core.specs.declared.answer.Refusal.Refusal)
-    → MovesOn (view c.args.core.now) (view c.call_at_once.new.self) c.args.thread c.in-Some.op (Refused why)
-    → Moves (view c.args.core.now) (view c.call_at_once.new.self) c.args.thread c.in-Some.op (Refused why)
+    → MakesEvents (view c.args.core.now) (view c.call_at_once.new.self) c.args.thread c.in-Some.op (Refused why)
+    → MakesEvent (view c.args.core.now) (view c.call_at_once.new.self) c.args.thread c.in-Some.op (Refused why)
 only g c why on =
-    subst (λ n. MovesBy n (view c.args.core.now) (view c.call_at_once.new.self) c.args.thread c.in-Some.op
+    subst (λ n. MakesEventsBy n (view c.args.core.now) (view c.call_at_once.new.self) c.args.thread c.in-Some.op
     (Refused why)) (on.refused why refl) on.moves
 
 -- and so it reads nothing

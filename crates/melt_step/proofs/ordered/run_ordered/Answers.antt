@@ -1,4 +1,4 @@
--- The epoch is run behind its beginning, by a reader that is given back.
+-- The epoch is run after its beginning, by a reader that is given back.
 use Rattle.std.proofs.Common.{◌≡◌, ℕ, List, Vec, Global, sym, ◌∙◌, ap, subst, arith}
 use Rattle.std.specs.Prelude.{◌==◌, Bool, Option}
 use Rattle.melt_model.specs.declared.reports.Journal.{Journal}

@@ -5,13 +5,13 @@ use Rattle.clap.specs.Simple.{app_of, is_simple, matches_of}
 use Rattle.melt_top.specs.Parses.{names_of_verb}
 use Rattle.melt_top.specs.Words.{parts_options}
 use Rattle.melt_top.specs.Parses.{IsWord}
-use Rattle.melt_top.proofs.Parsing.{behind_first, options_agree, asked_simple, asked_free, parsed, refused}
+use Rattle.melt_top.proofs.Parsing.{after_first, options_agree, asked_simple, asked_free, parsed, refused}
 use Rattle.melt_top.proofs.options.options_given.Goals as goal
 
 pub returns-in-Ok : goal.returns-in-Ok
 returns-in-Ok c =
     let all = map string_bytes c.args.words.now in
-    let rest = behind_first string_bytes c.args.words.now in
+    let rest = after_first string_bytes c.args.words.now in
     let none = sym (c.if-has_dashes.ensures.value ∙ ap (list_any parts_options) rest) in
     let each = subst (AllByRecursion IsWord) rest c.if-has_dashes.ensures.words in
     let app = app_of c.in_ok-parser.parser in
@@ -23,7 +23,7 @@ returns-in-Ok c =
 pub returns-in-Err : goal.returns-in-Err
 returns-in-Err c =
     let all = map string_bytes c.args.words.now in
-    let rest = behind_first string_bytes c.args.words.now in
+    let rest = after_first string_bytes c.args.words.now in
     let none = sym (c.if-has_dashes.ensures.value ∙ ap (list_any parts_options) rest) in
     let each = subst (AllByRecursion IsWord) rest c.if-has_dashes.ensures.words in
     let app = app_of c.in_ok-parser.parser in

@@ -17,5 +17,5 @@ returns g c = record {
       (c.in_ok-report.ensures.has_run true (λ yes. rw c.new-space.ensures.disk served.tells)).reported.ends (search rules)
       served;
   status = c.status_for.ensures;
-  told = c.in_ok-text.ensures;
+  written = c.in_ok-text.ensures;
 }

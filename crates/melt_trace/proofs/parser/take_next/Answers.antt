@@ -1,7 +1,7 @@
 use Rattle.std.proofs.Common.{◌≡◌}
-use Rattle.melt_trace.specs.declared.language.Stage.TheVariants as stage
+use Rattle.melt_trace.specs.declared.language.Expected.TheVariants as stage
 use Rattle.melt_trace.specs.Drafts.{place_of}
-use Rattle.melt_trace.proofs.Canonical.{operation_taken, shorter_behind}
+use Rattle.melt_trace.proofs.Canonical.{operation_taken, shorter_after}
 use Rattle.melt_trace.proofs.parser.take_next.Goals.{in-Inside, in_default}
 use Rattle.melt_trace.proofs.parser.take_next.Goals as goal
 
@@ -22,5 +22,5 @@ returns c =
             text = found.ensures.text;
           })
           c.in_ok-operation.ensures.0;
-      shorter = shorter_behind found.op c.args.bytes.now found.rest.now found.ensures.text;
+      shorter = shorter_after found.op c.args.bytes.now found.rest.now found.ensures.text;
     }

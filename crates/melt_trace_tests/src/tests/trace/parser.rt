@@ -38,10 +38,10 @@ fn what_a_trace_says(rt: HostRuntime) -> Result<(), Fail> {
 }
 
 /// These lines, between others.
-fn text_of(alloc: Global, before: &[u8], lines: &str, behind: &[u8]) -> Result<Vec<u8>, Fail> {
+fn text_of(alloc: Global, before: &[u8], lines: &str, after: &[u8]) -> Result<Vec<u8>, Fail> {
     let mut text = Vec::from_slice(alloc, before)?;
     text.extend_from_slice(lines.as_bytes())?;
-    text.extend_from_slice(behind)?;
+    text.extend_from_slice(after)?;
     Ok(text)
 }
 
@@ -100,7 +100,8 @@ fn canonical_lines_and_others(rt: HostRuntime) -> Result<(), Fail> {
     Ok(())
 }
 
-/// Fails where another line and reason are told of some lines than stand beside them. All lines stand behind the same bytes.
+/// Fails where another line and reason are told of some lines than stand beside them. All lines stand after the same
+/// bytes.
 fn same_refusals(alloc: Global, before: &[u8], texts: &[(&str, (u32, u32))]) -> Result<(), Fail> {
     for (lines, told) in texts {
         let text = text_of(alloc, before, lines, b"")?;

@@ -1,6 +1,6 @@
-use Rattle.melt_epoch_tests.specs.Stages.{GoesOnStage}
+use Rattle.melt_epoch_tests.specs.Scenes.{GoesOnScene}
 use Rattle.melt_bench.proofs.epoch.calls.make_objects.Given as goal
 
 abbrev pub invariant-loop-thread : goal.invariant-loop-thread
 invariant-loop-thread g l =
-    GoesOnStage (g.R.RecordReader.image) l.stage.epoch l.stage.mutators l.stage.globals l.stage.disk.end
+    GoesOnScene (g.R.RecordReader.image) l.scene.epoch l.scene.mutators l.scene.globals l.scene.disk.end

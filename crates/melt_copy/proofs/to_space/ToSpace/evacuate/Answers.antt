@@ -76,7 +76,7 @@ encode_ref-requires g c =
       );
     }
 
--- the moves, with that of the object behind them
+-- the moves, with that of the object after them
 moves_then : (g : Over) (c : After-set_word g)
     → c.pick.result ≡ c.args.self.now.moves ++ next_move c.args.self.now c.args.address c.shape-shape.result ∷ []
 moves_then g c =

@@ -51,4 +51,4 @@ loop-address-preserved g c =
 
 pub returns-clause-moves : goal.returns-clause-moves
 returns-clause-moves g c = all_registers c.loop-address.invariant.so_far
-    (λ r behind. get_or_past c.args.registers.now.regs r 0 (omega (arith, behind))) c.requires
+    (λ r later. get_or_past c.args.registers.now.regs r 0 (omega (arith, later))) c.requires

@@ -1,6 +1,6 @@
 use Rattle.std.proofs.Common.{◌≡◌, refl, sym, ◌∙◌, ap, subst}
 use Rattle.std.specs.Prelude.{Some}
-use Rattle.melt_core.specs.Advances.{MayMove}
+use Rattle.melt_core.specs.Advances.{MayMakeEvent}
 use Rattle.melt_core.specs.Stages.{NeedsNoRead}
 use Rattle.melt_core.specs.Views.{stage_of, view}
 use Rattle.melt_core.proofs.Staged.{may_from, moves_from}
@@ -53,7 +53,7 @@ after_head-requires g c =
 pub returns-in-Headed : goal.returns-in-Headed
 returns-in-Headed g c =
     let is = at g (goal.at.returns-in-Headed g c).In-Some ∙ ap Some c.in-Headed.is in
-    let may : MayMove (view c.args.self.now) c.args.thread c.args.op =
+    let may : MayMakeEvent (view c.args.self.now) c.args.thread c.args.op =
     record { disk = c.requires.disk; asks = c.requires.asks } in
     let event = unread (g.R.RecordReader.image c.args.reader.now) (g.R.RecordReader.faults c.args.reader.now)
     (g.R.RecordReader.reads c.args.reader.now) c.requires (moves_from may is c.after_head.ensures)

@@ -57,7 +57,7 @@ returns c = record {
       record { asks = asks_over v t o c.requires.asks disk stands; at = c.requires.stage } in
       let advances : View → Stage → Type 0 =
       λ x g. AdvancesOver disk v (with_call x t (Some (record { op = o; stage = g }))) t o Going in
-      let behind : advances (view c.match-probe.self) c.match-probe.stage = elim c.match-probe.branch [
+      let after : advances (view c.match-probe.self) c.match-probe.stage = elim c.match-probe.branch [
         | in-Empty w ↦
             advances_as advances c.match-probe.self w.enter.new.self c.match-probe.stage (reached a.search a.address)
             w.self-is (w.stage-is ∙ w.reached-stage.ensures)
@@ -71,5 +71,5 @@ returns c = record {
             (w.stage-is ∙ ap (λ (b : Activation). Retrying b) w.retried.ensures)
             (taken_advances disk is w.in-Another.ensures)
       ] in
-      subst (λ (w : View). AdvancesOver disk v w t o Going) (sym c.set_stage.ensures) behind;
+      subst (λ (w : View). AdvancesOver disk v w t o Going) (sym c.set_stage.ensures) after;
 }

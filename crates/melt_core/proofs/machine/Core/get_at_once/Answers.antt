@@ -1,4 +1,4 @@
--- Behind the events that find the object comes that of `get`.
+-- After the events that find the object comes that of `get`.
 use Rattle.melt_core.specs.declared.call.Access.TheVariants.{Get}
 use Rattle.melt_core.proofs.AtOnce.{uses}
 use Rattle.melt_core.proofs.machine.Core.get_at_once.Goals as goal

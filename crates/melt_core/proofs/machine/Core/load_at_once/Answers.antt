@@ -1,4 +1,4 @@
--- Behind the events that find the object comes that of `look`.
+-- After the events that find the object comes that of `look`.
 use Rattle.std.proofs.Common.{refl}
 use Rattle.melt_core.specs.declared.call.Access.TheVariants.{Load}
 use Rattle.melt_core.specs.declared.call.Stage.TheVariants.{Headed}

@@ -11,7 +11,8 @@ use Rattle.melt_core.specs.declared.call.Stage.TheVariants.{Claimed}
 use Rattle.melt_core.specs.declared.call.Task.TheVariants.{Make}
 use Rattle.melt_core.specs.Views.{View, call_of, stage_in, stage_of, view}
 use Rattle.melt_core.proofs.Asked.{call_at}
-use Rattle.melt_core.proofs.AtOnce.{GoesOn, call_within, claimed_well, first_on, last_on, made_none, making, may_on}
+use Rattle.melt_core.proofs.AtOnce.{MayMakeNextEvent, call_within, claimed_well, first_on, last_on, made_none, making}
+use Rattle.melt_core.proofs.AtOnce.{may_on}
 use Rattle.melt_core.proofs.AtOnce.{next_on, polled, zero_on, zero_word}
 use Rattle.melt_core.proofs.machine.Core.make_at_once.Goals as goal
 use Rattle.melt_core.proofs.machine.Core.make_at_once.Goals.{After-claim_region, After-set_stage}
@@ -25,8 +26,9 @@ claim_region-requires-clause-stage c =
     polled (view c.args.self.now) (view c.poll.new.self) c.args.thread c.args.op (Make c.args.dst c.args.shape)
     c.requires.asks c.requires.first c.requires.task c.in-Going.ensures
 
--- behind the second event
-claims : (c : After-claim_region) → GoesOn (view c.args.self.now) (view c.claim_region.new.self) c.args.thread c.args.op
+-- after the second event
+claims : (c : After-claim_region) → MayMakeNextEvent (view c.args.self.now) (view c.claim_region.new.self) c.args.thread
+    c.args.op
 claims c =
     next_on (view c.args.self.now) (view c.poll.new.self) (view c.claim_region.new.self) c.args.thread c.args.op
     (first_on (view c.args.self.now) (view c.poll.new.self) c.args.thread c.args.op c.requires.asks
@@ -56,7 +58,7 @@ loop-stored-preserved c =
     let space : SpaceWords = (view c.set_word.new.self).space in
     let few : c.loop-stored.stored + 1 < cost_of c.args.shape =
     omega (arith, c.loop-stored-test.true, c.cost-last.ensures) in (
-      subst (λ (w : View). GoesOn (view c.args.self.now) (with_call w c.args.thread
+      subst (λ (w : View). MayMakeNextEvent (view c.args.self.now) (with_call w c.args.thread
           (Some (making c.args.op c.in-Some.address c.args.shape (c.loop-stored.stored + 1) c.args.dst))) c.args.thread
           c.args.op) (sym c.set_word.ensures.only)
           (zero_on m space c.in-Some.address c.loop-stored.stored c.args.dst c.args.shape c.loop-stored.invariant.0
@@ -69,8 +71,9 @@ pub set_stage-requires-clause-call : goal.set_stage-requires-clause-call
 set_stage-requires-clause-call c =
     (Claimed c.in-Some.address c.args.shape 0 c.args.dst, c.loop-stored.invariant.1)
 
--- the stage behind the last of these words
-staged : (c : After-set_stage) → (GoesOn (view c.args.self.now) (view c.set_stage.new.self) c.args.thread c.args.op)
+-- the stage after the last of these words
+staged : (c : After-set_stage) → (MayMakeNextEvent (view c.args.self.now) (view c.set_stage.new.self) c.args.thread
+    c.args.op)
     × (stage_of (view c.set_stage.new.self) c.args.thread
     ≡ Some (Claimed c.in-Some.address c.args.shape c.loop-stored.stored c.args.dst))
 staged c =
@@ -82,7 +85,8 @@ staged c =
     c.set_stage.ensures
     ∙ ap (λ (g : Stage). with_call m c.args.thread (Some (record { op = c.args.op; stage = g })))
     (c.stage.ensures ∙ ap (λ (n : ℕ). Claimed c.in-Some.address c.args.shape n c.args.dst) last) in (
-      subst (λ (w : View). GoesOn (view c.args.self.now) w c.args.thread c.args.op) (sym is) c.loop-stored.invariant.0,
+      subst (λ (w : View). MayMakeNextEvent (view c.args.self.now) w c.args.thread c.args.op) (sym is)
+          c.loop-stored.invariant.0,
       ap (λ (w : View). stage_of w c.args.thread) is
           ∙ ap stage_in (get_or-set_same m.calls c.args.thread call None
           (call_within m c.args.thread _ c.loop-stored.invariant.1)),

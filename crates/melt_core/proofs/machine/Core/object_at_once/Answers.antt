@@ -8,7 +8,7 @@ use Rattle.melt_core.specs.declared.answer.StepResult.TheVariants.{Answered}
 use Rattle.melt_model.specs.declared.operations.Reply.TheVariants as reply
 use Rattle.melt_core.proofs.Answered.{nil_advances}
 use Rattle.melt_core.proofs.Asked.{asks_over}
-use Rattle.melt_core.proofs.AtOnce.{GoesOn, heads, one_event, polls, ranges}
+use Rattle.melt_core.proofs.AtOnce.{MayMakeNextEvent, heads, one_event, polls, ranges}
 use Rattle.melt_core.proofs.machine.Core.object_at_once.Goals as goal
 use Rattle.melt_core.proofs.machine.Core.object_at_once.Goals.{Else-self, Then-is_within}
 
@@ -22,15 +22,16 @@ returns-then-address-eq0-clause-answers c =
           (sym c.register-address.ensures ∙ c.if-address-eq0.true);
     })
 
--- behind the first event
-polled : (c : Else-self) → GoesOn (view c.args.self.now)
+-- after the first event
+polled : (c : Else-self) → MayMakeNextEvent (view c.args.self.now)
     (with_stage (view c.args.self.now) c.args.thread c.args.op (Polled (Use c.args.r c.args.access))) c.args.thread c.args.op
 polled c =
     polls (Use c.args.r c.args.access) c.requires.asks c.requires.first
     (c.requires.task, λ none. c.if-address-eq0.false (c.register-address.ensures ∙ none)) (search rules)
 
--- behind the second
-headed : (c : Then-is_within) → GoesOn (view c.args.self.now) (with_stage (view c.args.self.now) c.args.thread c.args.op
+-- after the second
+headed : (c : Then-is_within) → MayMakeNextEvent (view c.args.self.now) (with_stage (view c.args.self.now) c.args.thread
+    c.args.op
     (Headed c.register-address.result c.shape-shape.result c.args.access)) c.args.thread c.args.op
 headed c =
     heads c.args.r c.args.access c.shape-shape.result (polled (goal.at.Then-is_within c).Else-self)

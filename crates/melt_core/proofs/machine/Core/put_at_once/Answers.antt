@@ -1,4 +1,4 @@
--- Behind the events that find the object comes that of `put`.
+-- After the events that find the object comes that of `put`.
 use Rattle.melt_core.specs.declared.call.Access.TheVariants.{Put}
 use Rattle.melt_core.proofs.AtOnce.{uses}
 use Rattle.melt_core.proofs.machine.Core.put_at_once.Goals as goal

@@ -11,7 +11,7 @@ pub returns : goal.returns
 returns c = let v : View = view c.args.self.now in record {
   slot = slot_named (maps v) c.args.place;
   is_slot = place_slot (maps v) (state c.requires.place.0 v) c.args.place c.requires.place.1;
-  told = ap Answered (c.reply_for.ensures ∙ found_named v.names c.args.address c.requires.named);
+  answered = ap Answered (c.reply_for.ensures ∙ found_named v.names c.args.address c.requires.named);
   is = c.set_call.ensures
       ∙ ap (λ (x : View). with_call x c.args.thread None)
       (c.set_register.ensures

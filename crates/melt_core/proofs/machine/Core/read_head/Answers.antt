@@ -21,13 +21,13 @@ pub returns-in-Ok-clause-advances : goal.returns-in-Ok-clause-advances
 returns-in-Ok-clause-advances g c =
     let v : View = view c.args.self.now in
     let image = g.R.RecordReader.image c.args.reader.now in
-    let behind = c.in-Ok.ensures.stage in
+    let after = c.in-Ok.ensures.stage in
     subst (λ (w : View). Advances c.args.end image v w c.args.thread c.args.op Going) (sym c.set_stage.ensures)
     (head_advances c.args.end image v c.args.thread c.args.op c.args.search c.read_at.new.words (record {
       may = c.requires.asks;
       at = c.requires.stage;
       read = ok_of c.read_at.result _ c.read_at.ensures.words (sym c.is_err.ensures.value) c.if-is_err.false;
-    }) behind.0 c.in-Ok.stage behind.1 behind.2)
+    }) after.0 c.in-Ok.stage after.1 after.2)
 
 pub returns-in-Ok-clause-uses : goal.returns-in-Ok-clause-uses
 returns-in-Ok-clause-uses g c =

@@ -10,7 +10,7 @@ use Rattle.melt_core.specs.Changed.{with_call}
 use Rattle.melt_core.specs.Stages.{retried}
 use Rattle.melt_core.specs.Views.{View, view}
 use Rattle.melt_core.proofs.Asked.{asks_over, known_at}
-use Rattle.melt_core.proofs.Searching.{behind_word, few_more, not_over, retry_advances}
+use Rattle.melt_core.proofs.Searching.{after_word, few_more, not_over, retry_advances}
 use Rattle.melt_core.proofs.machine.Core.retry.Goals.{in-At, in-Empty, in-Another}
 use Rattle.melt_core.proofs.machine.Core.retry.Goals as goal
 
@@ -29,7 +29,7 @@ returns c = record {
       let v : View = view c.args.self.now in
       let asks = asks_over v c.args.thread c.args.op c.requires.asks disk stands in
       let a : Activation = c.args.activation in
-      let next : Probe → Stage = behind_word a.search (Copied a) (Retrying (retried a)) in
+      let next : Probe → Stage = after_word a.search (Copied a) (Retrying (retried a)) in
       let stage : c.match-probe.stage ≡ next c.probe.result = elim c.match-probe.branch [
         | in-At w ↦ w.stage-is ∙ (w.reached-stage.ensures ∙ sym (ap next w.in-At.is))
         | in-Empty w ↦ w.stage-is ∙ sym (ap next w.in-Empty.is)

@@ -10,7 +10,7 @@ use Rattle.melt_core.specs.Changed.{with_call}
 use Rattle.melt_core.specs.Stages.{further}
 use Rattle.melt_core.specs.Views.{View, view}
 use Rattle.melt_core.proofs.Asked.{asks_over, known_at}
-use Rattle.melt_core.proofs.Searching.{behind_word, few_more, not_over, search_advances}
+use Rattle.melt_core.proofs.Searching.{after_word, few_more, not_over, search_advances}
 use Rattle.melt_core.proofs.machine.Core.search.Goals.{in-At, in-Empty, in-Another}
 use Rattle.melt_core.proofs.machine.Core.search.Goals as goal
 
@@ -28,7 +28,7 @@ returns c = record {
   over = λ disk stands.
       let v : View = view c.args.self.now in
       let asks = asks_over v c.args.thread c.args.op c.requires.asks disk stands in
-      let next : Probe → Stage = behind_word c.args.search (Missed c.args.search) (Searching (further c.args.search)) in
+      let next : Probe → Stage = after_word c.args.search (Missed c.args.search) (Searching (further c.args.search)) in
       let stage : c.match-probe.stage ≡ next c.probe.result = elim c.match-probe.branch [
         | in-At w ↦ w.stage-is ∙ (w.reached-stage.ensures ∙ sym (ap next w.in-At.is))
         | in-Empty w ↦ w.stage-is ∙ sym (ap next w.in-Empty.is)

@@ -1,4 +1,4 @@
--- Behind the events that find the object comes that of `store`.
+-- After the events that find the object comes that of `store`.
 use Rattle.std.proofs.Common.{refl}
 use Rattle.melt_core.specs.declared.call.Access.TheVariants.{Store}
 use Rattle.melt_core.specs.declared.call.Stage.TheVariants.{Headed}

@@ -17,7 +17,7 @@ returns c = record {
   calls = c.in_ok-vec-2.ensures.items_if_clones_equal (none_is _ (λ d is. is));
   records = c.in_ok-vec-3.ensures.items_if_clones_equal (λ y zips. same_from_all_zip _ _ _ zips.whole (λ a b is. is));
   history = search rules;
-  told = c.pick.ensures;
+  shadow_log = c.pick.ensures;
   room = search rules;
   made = refl;
 }

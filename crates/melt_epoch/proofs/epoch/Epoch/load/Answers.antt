@@ -24,12 +24,12 @@ use Rattle.melt_epoch.proofs.epoch.Epoch.load.Given.{Over}
 use Rattle.melt_epoch.proofs.epoch.Epoch.load.Goals as goal
 use Rattle.melt_epoch.proofs.epoch.Epoch.load.Goals.{After-load_slot}
 
--- what the seat knows before the call, and behind it
+-- what the seat knows before the call, and after it
 abbrev before : (g : Over) → After-load_slot g → View
 before g c = knows_of c.in-Some-Some.seat.now
 
-abbrev behind : (g : Over) → After-load_slot g → View
-behind g c = knows_of c.load_slot.new.seat
+abbrev afterwards : (g : Over) → After-load_slot g → View
+afterwards g c = knows_of c.load_slot.new.seat
 
 abbrev most : (g : Over) → After-load_slot g → ℕ
 most g c = 2 * c.args.self.now.words.start.began.forwards + 134
@@ -39,7 +39,7 @@ abbrev Came : (g : Over) → After-load_slot g → Value → Result Loaded Refus
 Came g c value result =
     LoadsSlot c.args.self.now.words.start.began.told (g.R.RecordReader.image c.in-Some-Some.reader.now)
     c.args.self.now.heap.scions c.args.self.now.end (g.R.RecordReader.faults c.in-Some-Some.reader.now)
-    (g.R.RecordReader.faults c.load_slot.new.reader) (before g c) (behind g c) value c.args.i (most g c) result
+    (g.R.RecordReader.faults c.load_slot.new.reader) (before g c) (afterwards g c) value c.args.i (most g c) result
 
 -- for the value in the register, at each of its answers
 came : (g : Over) (c : After-load_slot g) (result : Result Loaded Refusal)
@@ -112,7 +112,7 @@ returns-in-Ok-At-clause-loaded g c s t p q at_s at_t at_p at_q =
     let n = c.hold.new.self in
     let new = c.load_slot.new.seat in
     let v = before g at in
-    let w = behind g at in
+    let w = afterwards g at in
     let target = c.in-Ok-At.target in
     let loads = came_to g at c.in-Ok-At.field-0 (loaded.At target) c.in-Ok-At.field-0-is c.in-Ok-At.ensures.loads in
     let there : n.seat ≡ Some new = ap (λ (x : Mutator _). x.seat) c.hold.ensures.holds in
@@ -147,8 +147,13 @@ returns-in-Err-clause-loaded g c s t p q at_s at_t at_p at_q =
     c.args.self.now.end (g.R.RecordReader.faults x) (g.R.RecordReader.faults y) v w m.values m.values c.args.dst
     c.args.src c.args.i (most g at) (Err c.in-Err.refusal) in
     by_seats (Refused p q) c.in-Some-Some.ensures.value refl at_s at_t
-    (subst (λ (x : g.row.R.Denot). Refused x q (before g at) (behind g at)) from
-    (subst (λ (y : g.row.R.Denot). Refused reader y (before g at) (behind g at)) to (refl, loads.0, loads.1, loads.2)))
+    (subst (λ (x : g.row.R.Denot). Refused x q (before g at) (afterwards g at)) from
+    (subst (λ (y : g.row.R.Denot). Refused reader y (before g at) (afterwards g at)) to (
+      refl,
+      loads.0,
+      loads.1,
+      loads.2,
+    )))
 
 pub returns-in-Ok-At-clause-holds : goal.returns-in-Ok-At-clause-holds
 returns-in-Ok-At-clause-holds g c =

@@ -8,7 +8,7 @@ use Rattle.melt_epoch.proofs.mutator.Mutator.same.Goals as goal
 
 pub returns-then-self-a : goal.returns-then-self-a
 returns-then-self-a g c = record {
-  told = λ words h seated told.
+  answers = λ words h seated told.
       let m = c.args.self.now in
       let a = c.args.a in
       let b = c.args.b in
@@ -20,7 +20,7 @@ returns-then-self-a g c = record {
 
 pub returns-else-self-a : goal.returns-else-self-a
 returns-else-self-a g c = record {
-  told = λ words h seated told.
+  answers = λ words h seated told.
       let m = c.args.self.now in
       let a = c.args.a in
       let b = c.args.b in

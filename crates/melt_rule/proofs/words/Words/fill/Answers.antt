@@ -2,7 +2,7 @@ use Rattle.std.proofs.Common.{◌+◌, ◌<◌, arith, refl}
 use Rattle.melt_word.specs.Words.{cost_of}
 use Rattle.melt_rule.proofs.MayMake.{fills, region_within}
 use Rattle.melt_rule.proofs.Seating.{seated}
-use Rattle.melt_rule.proofs.Standing.{at_table, has_word, word_behind_at}
+use Rattle.melt_rule.proofs.Standing.{at_table, has_word, word_after_at}
 use Rattle.melt_rule.proofs.words.Words.fill.Goals as goal
 
 pub store-requires : goal.store-requires
@@ -14,7 +14,7 @@ store-requires c =
     let below = has_word at (c.args.address + 1 + c.args.k) (omega arith) in (
       at.is_seat.same,
       omega arith,
-      fills _ at.is_seat.live (rw region.3.0 at region.2) few (word_behind_at at c.args.address c.args.k),
+      fills _ at.is_seat.live (rw region.3.0 at region.2) few (word_after_at at c.args.address c.args.k),
     )
 
 pub returns-clause-seat : goal.returns-clause-seat

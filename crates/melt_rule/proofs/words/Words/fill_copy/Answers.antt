@@ -3,7 +3,7 @@ use Rattle.melt_word.specs.Words.{cost_of}
 use Rattle.melt_core.specs.declared.call.Activation.{Activation}
 use Rattle.melt_rule.proofs.Copying.{fills_copy_at, copying_within}
 use Rattle.melt_rule.proofs.Seating.{seated}
-use Rattle.melt_rule.proofs.Standing.{at_table, has_word, word_behind_at}
+use Rattle.melt_rule.proofs.Standing.{at_table, has_word, word_after_at}
 use Rattle.melt_rule.proofs.words.Words.fill_copy.Goals as goal
 
 pub store-requires : goal.store-requires
@@ -16,7 +16,7 @@ store-requires c =
       at.is_seat.same,
       omega arith,
       fills_copy_at _ at.is_seat.live c.requires.copying few c.requires.word
-          (word_behind_at at a.address c.args.stored),
+          (word_after_at at a.address c.args.stored),
     )
 
 pub returns-clause-seat : goal.returns-clause-seat

@@ -43,7 +43,7 @@ returns-in_default g c =
         subst (λ (y : ThreadState). CollectedFor y s) (same_Some s x (sym at ∙ there)) (other_stays s never),
       );
       made = λ x there.
-          subst (λ (y : ThreadState). MakesFor y (g.S.Space.sees.shown c.args.space.now) run run)
+          subst (λ (y : ThreadState). MakesFor y (g.S.DiskSpace.sees.shown c.args.space.now) run run)
           (same_Some s x (sym at ∙ there)) (made_none _ run s never);
       lost = refl;
       stopped = tt;

@@ -8,14 +8,15 @@ use Rattle.melt_safepoint.proofs.run.Run.collect_for_all.Given as goal
 
 abbrev pub invariant-loop-t : goal.invariant-loop-t
 invariant-loop-t g l = record {
-  keeps : KeepsRun (g.S.Space.sees.shown l.fn.space) (g.S.Space.sees.shown l.space) (row_of g.E.Machine.view l.fn.self)
+  keeps : KeepsRun (g.S.DiskSpace.sees.shown l.fn.space) (g.S.DiskSpace.sees.shown l.space) (row_of g.E.Machine.view
+      l.fn.self)
       (row_of g.E.Machine.view l.run);
   below : CollectedBelow l.fn.self.states.items l.run.states.items l.t;
-  made : MadeBelow (g.S.Space.sees.shown l.fn.space) (row_of g.E.Machine.view l.fn.self)
+  made : MadeBelow (g.S.DiskSpace.sees.shown l.fn.space) (row_of g.E.Machine.view l.fn.self)
       (row_of g.E.Machine.view l.run) l.t;
   lost : losses l.run.states.items ≡ losses l.fn.self.states.items;
-  count : g.S.Space.sees.faults l.fn.space ≤ g.S.Space.sees.faults l.space;
-  same_disk : g.S.Space.sees.name l.space ≡ g.S.Space.sees.name l.fn.space;
-  lends : g.S.Space.sees.lends l.space ≡ g.S.Space.sees.lends l.fn.space;
-  read_faults : g.S.Space.sees.read_faults l.space ≡ g.S.Space.sees.read_faults l.fn.space;
+  count : g.S.DiskSpace.sees.faults l.fn.space ≤ g.S.DiskSpace.sees.faults l.space;
+  same_disk : g.S.DiskSpace.sees.name l.space ≡ g.S.DiskSpace.sees.name l.fn.space;
+  lends : g.S.DiskSpace.sees.lends l.space ≡ g.S.DiskSpace.sees.lends l.fn.space;
+  read_faults : g.S.DiskSpace.sees.read_faults l.space ≡ g.S.DiskSpace.sees.read_faults l.fn.space;
 }

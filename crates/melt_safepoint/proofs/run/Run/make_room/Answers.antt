@@ -1,4 +1,4 @@
--- The call is made first, or behind forced Moves, or its thread ends.
+-- The call is made first, or after forced Moves, or its thread ends.
 use Rattle.std.proofs.Common.{◌≡◌, refl, sym, ap, subst, arith, inl, inr}
 use Rattle.std.proofs.lemmas.Result.{err_from_is_err_and}
 use Rattle.std.specs.Prelude.{Bool, Some}
@@ -35,12 +35,12 @@ returns-in_err-run-clause-stop_lends g c =
     (stop_one _ _ _ _ _ (c.run_epoch.ensures.lends n by) c.in_err-run.ensures.stop_keeps))
 
 -- what was seen of the disk is seen still
-seen : (g : Over) (c : In-None g) → g.S.Space.sees.shown c.run_epoch.new.space
-    ≡ g.S.Space.sees.shown c.args.space.now
+seen : (g : Over) (c : In-None g) → g.S.DiskSpace.sees.shown c.run_epoch.new.space
+    ≡ g.S.DiskSpace.sees.shown c.args.space.now
 seen g c = c.run_epoch.ensures.shown
 
 -- the call was made
-made : (g : Over) (c : In-None g) → RunsEpoch (g.S.Space.sees.shown c.args.space.now) (Some c.args.thread)
+made : (g : Over) (c : In-None g) → RunsEpoch (g.S.DiskSpace.sees.shown c.args.space.now) (Some c.args.thread)
     (row_of g.E.Machine.view c.args.self) (row_of g.E.Machine.view c.in_ok-run.run')
 made g c = rw c.in-None.is at c.in_ok-run.ensures.ends
 
@@ -68,15 +68,15 @@ returns-in-None-clause-lends g c =
     (lends_one _ _ _ _ _ (c.run_epoch.ensures.lends n by) (ap (λ (x : Collector). x.journal.items) runs.collector))
 
 -- the call lacked words
-lacked : (g : Over) (c : In-Some g) → LacksFirst (g.S.Space.sees.shown c.args.space.now) c.args.thread
+lacked : (g : Over) (c : In-Some g) → LacksFirst (g.S.DiskSpace.sees.shown c.args.space.now) c.args.thread
     c.in-Some.need (row_of g.E.Machine.view c.args.self) (row_of g.E.Machine.view c.in_ok-run.run')
 lacked g c = rw c.in-Some.is at c.in_ok-run.ensures.ends
 
 -- told of what is seen then
 lacks : (g : Over) (c : In-Some g) (told : Bool) (script : Script) (config : Config)
-    → AwaitsCall told script config (g.S.Space.sees.shown c.args.space.now) 0
+    → AwaitsCall told script config (g.S.DiskSpace.sees.shown c.args.space.now) 0
     (row_of g.E.Machine.view c.args.self) c.args.thread
-    → LacksWords told script config (g.S.Space.sees.shown c.run_epoch.new.space) 0
+    → LacksWords told script config (g.S.DiskSpace.sees.shown c.run_epoch.new.space) 0
     (row_of g.E.Machine.view c.in_ok-run.run') c.args.thread c.in-Some.need
 lacks g c told script config awaits =
     subst (λ (shown : Shown). LacksWords told script config shown 0 (row_of g.E.Machine.view c.in_ok-run.run')

@@ -1,4 +1,4 @@
--- The call is made behind one Move more, or again behind another, or its thread ends.
+-- The call is made after one Move more, or again after another, or its thread ends.
 use Rattle.std.proofs.Common.{◌≡◌, ℕ, ◌+◌, ◌<◌, suc, refl, sym, ◌∙◌, ap, subst, arith, inl}
 use Rattle.std.proofs.lemmas.Result.{err_from_is_err_and}
 use Rattle.std.specs.Prelude.{Bool, Some, None, Option, length}
@@ -67,11 +67,11 @@ returns-in_err-moved-clause-stopped g c =
     c.in_err-moved.ensures.stopped told script config
     ((suc c.loop-forced.forced, still.stands), λ is. still.tight))
 
--- behind one Move more the thread awaits its call
+-- after one Move more the thread awaits its call
 awaits : (g : Over) (c : In_ok-moved g) (told : Bool) (script : Script) (config : Config)
-    → LacksWords told script config (g.S.Space.sees.shown c.args.space.now) 0 (row_of g.E.Machine.view c.args.self)
+    → LacksWords told script config (g.S.DiskSpace.sees.shown c.args.space.now) 0 (row_of g.E.Machine.view c.args.self)
     c.args.thread c.args.need
-    → AwaitsCall told script config (g.S.Space.sees.shown c.collect.new.space) (suc c.loop-forced.forced)
+    → AwaitsCall told script config (g.S.DiskSpace.sees.shown c.collect.new.space) (suc c.loop-forced.forced)
     (row_of g.E.Machine.view c.in_ok-moved.moved) c.args.thread
 awaits g c told script config lacks =
     awaits_again (c.may_move.ensures.some c.loop-forced-test.true)
@@ -99,7 +99,7 @@ returns-in_err-next-clause-stopped g c =
 -- no thread more was lost with the Move
 move_lost : (g : Over) (c : In_ok-moved g)
     → CountsLosses c.args.self.states.items c.in_ok-moved.moved.states.items
-    (g.S.Space.sees.read_faults c.args.space.now) (g.S.Space.sees.read_faults c.collect.new.space)
+    (g.S.DiskSpace.sees.read_faults c.args.space.now) (g.S.DiskSpace.sees.read_faults c.collect.new.space)
 move_lost g c =
     counts_then c.args.self.states.items c.loop-forced.run.states.items c.in_ok-moved.moved.states.items _ _ _
     c.loop-forced.invariant.lost (counts_same c.loop-forced.run.states.items c.in_ok-moved.moved.states.items _ _
@@ -122,16 +122,16 @@ returns-in_err-next-clause-stop_lends g c =
     (omega (arith, journal_more c.in_ok-moved.ensures.made))
     (stop_one _ _ _ _ _ (c.run_epoch.ensures.lends n by) c.in_err-next.ensures.stop_keeps))))
 
--- how the Move was made, and what the call came to behind it
+-- how the Move was made, and what the call came to after it
 once : (g : Over) (c : In_ok-next g) (told : Bool) (script : Script) (config : Config) (lacks : Option ℕ)
-    → EndsEpoch (g.S.Space.sees.shown c.collect.new.space) (Some c.args.thread)
+    → EndsEpoch (g.S.DiskSpace.sees.shown c.collect.new.space) (Some c.args.thread)
     (row_of g.E.Machine.view c.in_ok-moved.moved) (row_of g.E.Machine.view c.in_ok-next.next) lacks
-    → LacksWords told script config (g.S.Space.sees.shown c.args.space.now) 0 (row_of g.E.Machine.view c.args.self)
+    → LacksWords told script config (g.S.DiskSpace.sees.shown c.args.space.now) 0 (row_of g.E.Machine.view c.args.self)
     c.args.thread c.args.need
     → MovesOnce told script config (suc c.loop-forced.forced) (row_of g.E.Machine.view c.loop-forced.run)
     (row_of g.E.Machine.view c.in_ok-next.next) c.args.thread lacks
 once g c told script config lacks ends was = record {
-  shown = g.S.Space.sees.shown c.collect.new.space;
+  shown = g.S.DiskSpace.sees.shown c.collect.new.space;
   mid = row_of g.E.Machine.view c.in_ok-moved.moved;
   moved = moved_one _ _ _ _ c.in_ok-moved.ensures.made;
   states = c.in_ok-moved.ensures.made.states;
@@ -139,11 +139,11 @@ once g c told script config lacks ends was = record {
   called = ends;
 }
 
--- so many readers were lent for the Move and the epoch behind it
+-- so many readers were lent for the Move and the epoch after it
 once_lends : (g : Over) (c : In_ok-next g)
     → journal_of (row_of g.E.Machine.view c.in_ok-next.next) ≡ journal_of (row_of g.E.Machine.view c.in_ok-moved.moved)
-    → (n : ℕ) → LendsEach g.C.Fn g.F.Fn g.E.Machine.view g.E.Machine.stored g.S.Space.sees c.args.engine.now n
-    → LendsFew n 0 (g.S.Space.sees.lends c.args.space.now) (g.S.Space.sees.lends c.run_epoch.new.space)
+    → (n : ℕ) → LendsEach g.C.Fn g.F.Fn g.E.Machine.view g.E.Machine.stored g.S.DiskSpace.sees c.args.engine.now n
+    → LendsFew n 0 (g.S.DiskSpace.sees.lends c.args.space.now) (g.S.DiskSpace.sees.lends c.run_epoch.new.space)
     (journal_of (row_of g.E.Machine.view c.args.self)) (journal_of (row_of g.E.Machine.view c.in_ok-next.next))
 once_lends g c same n by =
     let js = journal_of (row_of g.E.Machine.view c.in_ok-next.next) in
@@ -151,8 +151,8 @@ once_lends g c same n by =
     (lends_after 0 _ c.collect.ensures.lends (omega (arith, journal_more c.in_ok-moved.ensures.made))
     (lends_one _ _ _ _ _ (c.run_epoch.ensures.lends n by) same))
 
--- the call was made behind the Move
-made : (g : Over) (c : In-None g) → RunsEpoch (g.S.Space.sees.shown c.collect.new.space) (Some c.args.thread)
+-- the call was made after the Move
+made : (g : Over) (c : In-None g) → RunsEpoch (g.S.DiskSpace.sees.shown c.collect.new.space) (Some c.args.thread)
     (row_of g.E.Machine.view c.in_ok-moved.moved) (row_of g.E.Machine.view c.in_ok-next.next)
 made g c = rw c.in-None.is at c.in_ok-next.ensures.ends
 
@@ -180,8 +180,9 @@ returns-in-None-clause-lends g c =
     λ n by. lends_more 1 (omega arith)
     (once_lends g at.In_ok-next (ap (λ (x : Collector). x.journal.items) (made g at.In-None).collector) n by)
 
--- the call lacked words behind the Move too
-lacked : (g : Over) (c : In-Some g) → LacksFirst (g.S.Space.sees.shown c.collect.new.space) c.args.thread c.in-Some.more
+-- the call lacked words after the Move too
+lacked : (g : Over) (c : In-Some g) → LacksFirst (g.S.DiskSpace.sees.shown c.collect.new.space) c.args.thread
+    c.in-Some.more
     (row_of g.E.Machine.view c.in_ok-moved.moved) (row_of g.E.Machine.view c.in_ok-next.next)
 lacked g c = rw c.in-Some.is at c.in_ok-next.ensures.ends
 
@@ -212,7 +213,7 @@ out_of_heap-requires g c =
     let lacks = c.requires.lacks in
     record {
       lacks = (
-        g.S.Space.sees.shown c.loop-forced.space,
+        g.S.DiskSpace.sees.shown c.loop-forced.space,
         (
           c.loop-forced.forced,
           (
@@ -225,15 +226,16 @@ out_of_heap-requires g c =
       );
     }
 
--- the run stands behind the end of the thread
+-- the run stands after the end of the thread
 gone_on : (g : Over) (c : After-out_of_heap g) (told : Bool) (script : Script) (config : Config)
-    → LacksWords told script config (g.S.Space.sees.shown c.args.space.now) 0 (row_of g.E.Machine.view c.args.self)
+    → LacksWords told script config (g.S.DiskSpace.sees.shown c.args.space.now) 0 (row_of g.E.Machine.view c.args.self)
     c.args.thread c.args.need
-    → RunStands told script config (g.S.Space.sees.shown c.loop-forced.space)
+    → RunStands told script config (g.S.DiskSpace.sees.shown c.loop-forced.space)
     (row_of g.E.Machine.view c.out_of_heap.result)
 gone_on g c told script config was =
     let lacks = c.loop-forced.invariant.lacks told script config was in
-    c.out_of_heap.ensures.keeps (g.S.Space.sees.shown c.loop-forced.space) told script config c.loop-forced.forced lacks
+    c.out_of_heap.ensures.keeps (g.S.DiskSpace.sees.shown c.loop-forced.space) told script config c.loop-forced.forced
+    lacks
     (no_room_left (c.may_move.ensures.none c.loop-forced-test.false) told script config lacks)
 
 -- no forwarding word is filled then
@@ -250,9 +252,9 @@ gone_waits g c =
     let lacks = c.loop-forced.invariant.lacks was.0 was.1 was.2 was.3 in
     gone_own c.out_of_heap.ensures.gone lacks.own
 
-pub go_on-requires : goal.go_on-requires
-go_on-requires g c κs =
-    let at = (goal.at.go_on-requires g c).After-out_of_heap in
+pub next_epoch-requires : goal.next_epoch-requires
+next_epoch-requires g c κs =
+    let at = (goal.at.next_epoch-requires g c).After-out_of_heap in
     let was = c.requires.lacks in (
       (refl, tt),
       (
@@ -264,66 +266,67 @@ go_on-requires g c κs =
 pub returns-clause-keeps : goal.returns-clause-keeps
 returns-clause-keeps g c =
     let at = (goal.at.returns-clause-keeps g c).After-out_of_heap in
-    if_ok_from c.go_on.result _ _ (λ run goes told script config lacks.
+    if_ok_from c.next_epoch.result _ _ (λ run goes told script config lacks.
     subst (λ (shown : Shown). RunStands told script config shown (row_of g.E.Machine.view run))
-    (sym c.go_on.ensures.shown) (goes_keeps told script config _ (row_of g.E.Machine.view c.out_of_heap.result)
+    (sym c.next_epoch.ensures.shown) (goes_keeps told script config _ (row_of g.E.Machine.view c.out_of_heap.result)
     (row_of g.E.Machine.view run) goes (gone_on g at told script config lacks) (gone_rests g at) (gone_waits g at)))
-    c.go_on.ensures.goes
+    c.next_epoch.ensures.goes
 
 pub returns-clause-makes : goal.returns-clause-makes
 returns-clause-makes g c =
-    if_ok_from c.go_on.result _ _ (λ run goes told script config lacks. (
+    if_ok_from c.next_epoch.result _ _ (λ run goes told script config lacks. (
       c.loop-forced.forced + 0,
       omega (arith, c.loop-forced.invariant.few),
       c.loop-forced.invariant.moved told script config lacks 0 (row_of g.E.Machine.view run) (record {
-        shown = g.S.Space.sees.shown c.loop-forced.space;
+        shown = g.S.DiskSpace.sees.shown c.loop-forced.space;
         gone = row_of g.E.Machine.view c.out_of_heap.result;
         ends = c.out_of_heap.ensures.gone;
         goes = goes;
       }),
-    )) c.go_on.ensures.goes
+    )) c.next_epoch.ensures.goes
 
 pub returns-clause-less : goal.returns-clause-less
 returns-clause-less g c =
-    if_ok_from c.go_on.result _ _ (λ run goes. omega (
+    if_ok_from c.next_epoch.result _ _ (λ run goes. omega (
       arith,
       goes_less _ (row_of g.E.Machine.view c.out_of_heap.result) (row_of g.E.Machine.view run) goes,
       gone_less c.out_of_heap.ensures.gone,
       ap to_do c.loop-forced.invariant.states,
-    )) c.go_on.ensures.goes
+    )) c.next_epoch.ensures.goes
 
 pub returns-clause-rests : goal.returns-clause-rests
 returns-clause-rests g c =
-    if_ok_from c.go_on.result _ _ (λ run goes.
-    goes_rests _ (row_of g.E.Machine.view c.out_of_heap.result) (row_of g.E.Machine.view run) goes) c.go_on.ensures.goes
+    if_ok_from c.next_epoch.result _ _ (λ run goes.
+    goes_rests _ (row_of g.E.Machine.view c.out_of_heap.result) (row_of g.E.Machine.view run) goes)
+    c.next_epoch.ensures.goes
 
 pub returns-clause-lends : goal.returns-clause-lends
 returns-clause-lends g c =
-    if_ok_from c.go_on.result _ _ (λ run goes n by.
-    lends_then (c.loop-forced.invariant.lends n by) (lends_one _ _ _ _ _ (c.go_on.ensures.lends n by)
+    if_ok_from c.next_epoch.result _ _ (λ run goes n by.
+    lends_then (c.loop-forced.invariant.lends n by) (lends_one _ _ _ _ _ (c.next_epoch.ensures.lends n by)
     (goes_journal _ (row_of g.E.Machine.view c.out_of_heap.result) (row_of g.E.Machine.view run) goes
-    ∙ ap (λ (x : Collector). x.journal.items) c.out_of_heap.ensures.gone.collector))) c.go_on.ensures.goes
+    ∙ ap (λ (x : Collector). x.journal.items) c.out_of_heap.ensures.gone.collector))) c.next_epoch.ensures.goes
 
 pub returns-clause-stopped : goal.returns-clause-stopped
 returns-clause-stopped g c =
     let at = (goal.at.returns-clause-stopped g c).After-out_of_heap in
-    if_err_from c.go_on.result _ _ (λ stop stops told script config lacks.
-    stops told script config (gone_on g at told script config lacks)) c.go_on.ensures.stopped
+    if_err_from c.next_epoch.result _ _ (λ stop stops told script config lacks.
+    stops told script config (gone_on g at told script config lacks)) c.next_epoch.ensures.stopped
 
 pub returns-clause-stop_counts : goal.returns-clause-stop_counts
 returns-clause-stop_counts g c =
-    if_err_from c.go_on.result _ _ (λ stop counts.
-    stop_counts_then stop _ _ _ _ c.loop-forced.invariant.count c.go_on.ensures.count
+    if_err_from c.next_epoch.result _ _ (λ stop counts.
+    stop_counts_then stop _ _ _ _ c.loop-forced.invariant.count c.next_epoch.ensures.count
     (counts_then c.args.self.states.items
     c.loop-forced.run.states.items c.out_of_heap.result.states.items _ _ _ c.loop-forced.invariant.lost
     (counts_same c.loop-forced.run.states.items c.out_of_heap.result.states.items _ _ c.out_of_heap.ensures.lost
-    (omega arith))) counts) c.go_on.ensures.stop_counts
+    (omega arith))) counts) c.next_epoch.ensures.stop_counts
 
 pub returns-clause-stop_lends : goal.returns-clause-stop_lends
 returns-clause-stop_lends g c =
-    if_err_from c.go_on.result _ _ (λ stop keeps n by.
+    if_err_from c.next_epoch.result _ _ (λ stop keeps n by.
     stop_then 1 _ stop (c.loop-forced.invariant.lends n by)
     (stop_since _ 1 _ (journal_of (row_of g.E.Machine.view c.loop-forced.run))
     (journal_of (row_of g.E.Machine.view c.out_of_heap.result)) stop refl
     (omega (arith, ap (λ (x : Collector). length x.journal.items) c.out_of_heap.ensures.gone.collector))
-    (stop_one _ _ _ _ stop (c.go_on.ensures.lends n by) keeps))) c.go_on.ensures.stop_keeps
+    (stop_one _ _ _ _ stop (c.next_epoch.ensures.lends n by) keeps))) c.next_epoch.ensures.stop_keeps

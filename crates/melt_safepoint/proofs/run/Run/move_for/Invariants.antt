@@ -1,4 +1,4 @@
--- The call lacked words still, behind so many Moves that were forced in a row, and all threads are as they were.
+-- The call lacked words still, after so many Moves that were forced in a row, and all threads are as they were.
 use Rattle.std.proofs.Common.{◌≡◌, ◌-◌, ◌≤◌, ℕ}
 use Rattle.std.specs.Prelude.{Bool}
 use Rattle.melt_model.specs.declared.config.Config.{Config}
@@ -17,24 +17,24 @@ abbrev pub invariant-loop-forced : goal.invariant-loop-forced
 invariant-loop-forced g l = record {
   few : l.forced ≤ 2;
   lacks : (told : Bool) (script : Script) (config : Config)
-      → LacksWords told script config (g.S.Space.sees.shown l.fn.space) 0 (row_of g.E.Machine.view l.fn.self)
+      → LacksWords told script config (g.S.DiskSpace.sees.shown l.fn.space) 0 (row_of g.E.Machine.view l.fn.self)
       l.fn.thread
       l.fn.need
-      → LacksWords told script config (g.S.Space.sees.shown l.space) l.forced (row_of g.E.Machine.view l.run)
+      → LacksWords told script config (g.S.DiskSpace.sees.shown l.space) l.forced (row_of g.E.Machine.view l.run)
       l.fn.thread
       l.need;
   moved : (told : Bool) (script : Script) (config : Config)
-      → LacksWords told script config (g.S.Space.sees.shown l.fn.space) 0 (row_of g.E.Machine.view l.fn.self)
+      → LacksWords told script config (g.S.DiskSpace.sees.shown l.fn.space) 0 (row_of g.E.Machine.view l.fn.self)
       l.fn.thread
       l.fn.need
       → Moved told script config l.forced (row_of g.E.Machine.view l.fn.self) (row_of g.E.Machine.view l.run)
       l.fn.thread l.fn.need l.need;
   states : l.run.states.items ≡ l.fn.self.states.items;
-  lost : CountsLosses l.fn.self.states.items l.run.states.items (g.S.Space.sees.read_faults l.fn.space)
-      (g.S.Space.sees.read_faults l.space);
-  lends : (n : ℕ) → LendsEach g.C.Fn g.F.Fn g.E.Machine.view g.E.Machine.stored g.S.Space.sees l.fn.engine n
-      → LendsFew n 0 (g.S.Space.sees.lends l.fn.space) (g.S.Space.sees.lends l.space)
+  lost : CountsLosses l.fn.self.states.items l.run.states.items (g.S.DiskSpace.sees.read_faults l.fn.space)
+      (g.S.DiskSpace.sees.read_faults l.space);
+  lends : (n : ℕ) → LendsEach g.C.Fn g.F.Fn g.E.Machine.view g.E.Machine.stored g.S.DiskSpace.sees l.fn.engine n
+      → LendsFew n 0 (g.S.DiskSpace.sees.lends l.fn.space) (g.S.DiskSpace.sees.lends l.space)
       (journal_of (row_of g.E.Machine.view l.fn.self)) (journal_of (row_of g.E.Machine.view l.run));
-  count : g.S.Space.sees.faults l.fn.space ≤ g.S.Space.sees.faults l.space;
-  same_disk : g.S.Space.sees.name l.space ≡ g.S.Space.sees.name l.fn.space;
+  count : g.S.DiskSpace.sees.faults l.fn.space ≤ g.S.DiskSpace.sees.faults l.space;
+  same_disk : g.S.DiskSpace.sees.name l.space ≡ g.S.DiskSpace.sees.name l.fn.space;
 }

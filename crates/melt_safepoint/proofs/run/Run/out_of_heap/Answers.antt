@@ -10,9 +10,9 @@ use Rattle.melt_safepoint.proofs.run.Run.out_of_heap.Given.{Over}
 use Rattle.melt_safepoint.proofs.run.Run.out_of_heap.Goals as goal
 use Rattle.melt_safepoint.proofs.run.Run.out_of_heap.Goals.{After-drop_all}
 
--- the run behind the end of the thread
-behind : (g : Over) → After-drop_all g → Row
-behind g c = record {
+-- the run after the end of the thread
+after : (g : Over) → After-drop_all g → Row
+after g c = record {
   view = g.E.Machine.view c.drop_all.new.self;
   states = (with_item c.args.self.states c.args.thread (record c.index_mut-state.result.now {
     mode = Ended (end.OutOfHeap c.held-held.result c.args.need);
@@ -25,8 +25,8 @@ behind g c = record {
 
 -- how it has ended
 ends : (g : Over) (c : After-drop_all g)
-    → EndsCall (row_of g.E.Machine.view c.args.self) (behind g c) c.args.thread c.held-held.result c.args.need
-unfolding behind
+    → EndsCall (row_of g.E.Machine.view c.args.self) (after g c) c.args.thread c.held-held.result c.args.need
+unfolding after
 ends g c = record {
   s = c.index_mut-state.result.now;
   was = lacking_here c.args.self.states.items c.args.thread c.index_mut-state.result.now _
@@ -41,11 +41,11 @@ ends g c = record {
 }
 
 pub returns-clause-keeps : goal.returns-clause-keeps
-unfolding behind
+unfolding after
 returns-clause-keeps g c = λ shown told script config forced lacks no_room. gone_stands lacks no_room (ends g c)
 
 pub returns-clause-gone : goal.returns-clause-gone
-unfolding behind
+unfolding after
 returns-clause-gone g c =
     let e = ends g c in record {
       s = e.s;
@@ -57,5 +57,5 @@ returns-clause-gone g c =
     }
 
 pub returns-clause-lost : goal.returns-clause-lost
-unfolding behind
+unfolding after
 returns-clause-lost g c = gone_lost (ends g c)

@@ -37,9 +37,9 @@ collect_for_all-requires g c κs = ((refl, tt), (c.requires.engine, c.requires.s
 waits : (g : Over) (c : In_ok-run g) → OneWaits c.args.self.states.items
 waits g c = someone_waits c.args.self.states.items c.requires.rests c.requires.some
 
--- the run stands behind the collections for which threads waited
+-- the run stands after the collections for which threads waited
 stands : (g : Over) (c : In_ok-run g) → RunStands c.requires.stands.0 c.requires.stands.1 c.requires.stands.2
-    (g.S.Space.sees.shown c.collect_for_all.new.space) (row_of g.E.Machine.view c.in_ok-run.run')
+    (g.S.DiskSpace.sees.shown c.collect_for_all.new.space) (row_of g.E.Machine.view c.in_ok-run.run')
 stands g c = c.in_ok-run.ensures.keeps c.requires.stands.0 c.requires.stands.1 c.requires.stands.2 c.requires.stands.3
 
 -- so many collections more were made for threads that waited for their own
@@ -52,7 +52,7 @@ own_longer g c =
 
 -- no thread more was lost with them
 lost : (g : Over) (c : In_ok-run g) → CountsLosses c.args.self.states.items c.in_ok-run.run'.states.items
-    (g.S.Space.sees.read_faults c.args.space.now) (g.S.Space.sees.read_faults c.collect_for_all.new.space)
+    (g.S.DiskSpace.sees.read_faults c.args.space.now) (g.S.DiskSpace.sees.read_faults c.collect_for_all.new.space)
 lost g c = counts_same c.args.self.states.items c.in_ok-run.run'.states.items _ _ c.in_ok-run.ensures.lost
     (omega (arith, c.in_ok-run.ensures.read_faults))
 
@@ -62,7 +62,7 @@ due g c =
     own_due (row_of g.E.Machine.view c.args.self) (row_of g.E.Machine.view c.in_ok-run.run') c.in_ok-run.ensures.all
     (waits g (goal.at.In_default g c).In_ok-run) c.in_default.ensures.none
 
--- no forwarding word is filled behind it
+-- no forwarding word is filled after it
 settled : (g : Over) (c : In_default g) → NoneForwarded (g.E.Machine.view c.in_ok-run.run'.machine)
 settled g c = (c.in_ok-run.ensures.made.made (due g c)).none_forwarded
 
@@ -70,9 +70,9 @@ settled g c = (c.in_ok-run.ensures.made.made (due g c)).none_forwarded
 own : (g : Over) (c : In_ok-run g) → NoneOwn c.in_ok-run.run'.states.items
 own g c = none_own c.args.self.states.items c.in_ok-run.run'.states.items c.in_ok-run.ensures.all
 
-pub go_on-requires : goal.go_on-requires
-go_on-requires g c κs =
-    let at = goal.at.go_on-requires g c in (
+pub next_epoch-requires : goal.next_epoch-requires
+next_epoch-requires g c κs =
+    let at = goal.at.next_epoch-requires g c in (
       (refl, tt),
       (
         c.requires.engine,
@@ -86,49 +86,50 @@ go_on-requires g c κs =
 pub returns-in_default-clause-keeps : goal.returns-in_default-clause-keeps
 returns-in_default-clause-keeps g c =
     let at = goal.at.returns-in_default-clause-keeps g c in
-    if_ok_from c.go_on.result _ _ (λ run goes told script config had.
+    if_ok_from c.next_epoch.result _ _ (λ run goes told script config had.
     subst (λ (shown : Shown). RunStands told script config shown (row_of g.E.Machine.view run))
-    (sym c.go_on.ensures.shown) (goes_keeps told script config _ (row_of g.E.Machine.view c.in_ok-run.run')
+    (sym c.next_epoch.ensures.shown) (goes_keeps told script config _ (row_of g.E.Machine.view c.in_ok-run.run')
     (row_of g.E.Machine.view run) goes (c.in_ok-run.ensures.keeps told script config had) (settled g at.In_default)
-    (own g at.In_ok-run))) c.go_on.ensures.goes
+    (own g at.In_ok-run))) c.next_epoch.ensures.goes
 
 pub returns-in_default-clause-made : goal.returns-in_default-clause-made
 returns-in_default-clause-made g c =
-    if_ok_from c.go_on.result _ _ (λ run goes told script config had. record {
+    if_ok_from c.next_epoch.result _ _ (λ run goes told script config had. record {
       own = journal_of (row_of g.E.Machine.view c.in_ok-run.run');
       asked = c.in_ok-run.ensures.made.planned told script config had;
       room = inl (
         none_lacks c.args.self.states.items c.in_ok-run.run'.states.items c.in_ok-run.ensures.all
             c.in_default.ensures.none,
         record {
-          shown = g.S.Space.sees.shown c.collect_for_all.new.space;
+          shown = g.S.DiskSpace.sees.shown c.collect_for_all.new.space;
           mid = row_of g.E.Machine.view c.in_ok-run.run';
-          behind = refl;
+          after = refl;
           goes = goes;
         },
       );
-    }) c.go_on.ensures.goes
+    }) c.next_epoch.ensures.goes
 
 pub returns-in_default-clause-less : goal.returns-in_default-clause-less
 returns-in_default-clause-less g c =
     let at = goal.at.returns-in_default-clause-less g c in
-    if_ok_from c.go_on.result _ _ (λ run goes. omega (
+    if_ok_from c.next_epoch.result _ _ (λ run goes. omega (
       arith,
       goes_less _ (row_of g.E.Machine.view c.in_ok-run.run') (row_of g.E.Machine.view run) goes,
       own_less c.args.self.states.items c.in_ok-run.run'.states.items c.in_ok-run.ensures.all (waits g at.In_ok-run)
           c.in_default.ensures.none,
-    )) c.go_on.ensures.goes
+    )) c.next_epoch.ensures.goes
 
 pub returns-in_default-clause-rests : goal.returns-in_default-clause-rests
 returns-in_default-clause-rests g c =
-    if_ok_from c.go_on.result _ _ (λ run goes.
-    goes_rests _ (row_of g.E.Machine.view c.in_ok-run.run') (row_of g.E.Machine.view run) goes) c.go_on.ensures.goes
+    if_ok_from c.next_epoch.result _ _ (λ run goes.
+    goes_rests _ (row_of g.E.Machine.view c.in_ok-run.run') (row_of g.E.Machine.view run) goes)
+    c.next_epoch.ensures.goes
 
 pub returns-in_default-clause-lost : goal.returns-in_default-clause-lost
 returns-in_default-clause-lost g c =
     let at = (goal.at.returns-in_default-clause-lost g c).In_ok-run in
-    if_ok_from c.go_on.result _ _ (λ run more. counts_then c.args.self.states.items c.in_ok-run.run'.states.items
-    run.states.items _ _ _ (lost g at) more) c.go_on.ensures.lost
+    if_ok_from c.next_epoch.result _ _ (λ run more. counts_then c.args.self.states.items c.in_ok-run.run'.states.items
+    run.states.items _ _ _ (lost g at) more) c.next_epoch.ensures.lost
 
 -- one collection at least was made for the threads
 some_own : (n : ℕ) → n ≢ 0 → 1 ≤ n
@@ -143,33 +144,33 @@ own_more g c =
 pub returns-in_default-clause-lends : goal.returns-in_default-clause-lends
 returns-in_default-clause-lends g c =
     let at = (goal.at.returns-in_default-clause-lends g c).In_default in
-    if_ok_from c.go_on.result _ _ (λ run goes n by.
+    if_ok_from c.next_epoch.result _ _ (λ run goes n by.
     let js = journal_of (row_of g.E.Machine.view run) in
     let same = goes_journal _ (row_of g.E.Machine.view c.in_ok-run.run') (row_of g.E.Machine.view run) goes in
     lends_twice _ _ _ (journal_of (row_of g.E.Machine.view c.args.self)) js
     (omega (arith, own_more g at, ap length same))
     (lends_since _ c.in_ok-run.ensures.lends (omega (arith, own_more g at))
-    (lends_one _ _ _ _ _ (c.go_on.ensures.lends n by) same))) c.go_on.ensures.goes
+    (lends_one _ _ _ _ _ (c.next_epoch.ensures.lends n by) same))) c.next_epoch.ensures.goes
 
 pub returns-in_default-clause-stopped : goal.returns-in_default-clause-stopped
 returns-in_default-clause-stopped g c =
-    if_err_from c.go_on.result _ _ (λ stop stops. stops_then _ _ _ (row_of g.E.Machine.view c.args.self)
-    (row_of g.E.Machine.view c.in_ok-run.run') stop c.in_ok-run.ensures.keeps stops) c.go_on.ensures.stopped
+    if_err_from c.next_epoch.result _ _ (λ stop stops. stops_then _ _ _ (row_of g.E.Machine.view c.args.self)
+    (row_of g.E.Machine.view c.in_ok-run.run') stop c.in_ok-run.ensures.keeps stops) c.next_epoch.ensures.stopped
 
 pub returns-in_default-clause-stop_counts : goal.returns-in_default-clause-stop_counts
 returns-in_default-clause-stop_counts g c =
     let at = (goal.at.returns-in_default-clause-stop_counts g c).In_ok-run in
-    if_err_from c.go_on.result _ _ (λ stop counts. stop_counts_then stop _ _ _ _ c.in_ok-run.ensures.count
-    c.go_on.ensures.count (lost g at) counts)
-    c.go_on.ensures.stop_counts
+    if_err_from c.next_epoch.result _ _ (λ stop counts. stop_counts_then stop _ _ _ _ c.in_ok-run.ensures.count
+    c.next_epoch.ensures.count (lost g at) counts)
+    c.next_epoch.ensures.stop_counts
 
 pub returns-in_default-clause-stop_lends : goal.returns-in_default-clause-stop_lends
 returns-in_default-clause-stop_lends g c =
     let at = (goal.at.returns-in_default-clause-stop_lends g c).In_default in
-    if_err_from c.go_on.result _ _ (λ stop keeps n by.
+    if_err_from c.next_epoch.result _ _ (λ stop keeps n by.
     stop_twice _ _ (journal_of (row_of g.E.Machine.view c.in_ok-run.run')) stop c.in_ok-run.ensures.lends
     (own_more g at) _ (stop_more _ 2 _ _ _ stop (omega arith)
-    (stop_one _ _ _ _ stop (c.go_on.ensures.lends n by) keeps))) c.go_on.ensures.stop_keeps
+    (stop_one _ _ _ _ stop (c.next_epoch.ensures.lends n by) keeps))) c.next_epoch.ensures.stop_keeps
 
 pub collect-requires : goal.collect-requires
 collect-requires g c κs = (
@@ -208,7 +209,7 @@ returns-in_err-run-2-clause-stop_lends g c =
 
 -- how the run stands before the call that is made first
 before_call : (g : Over) (c : Joined-len-made g) → BeforeCall (collections_due c.args.self.states.items)
-    (g.S.Space.sees.shown c.collect_for_all.new.space) (g.S.Space.sees.shown c.if-len-made.space)
+    (g.S.DiskSpace.sees.shown c.collect_for_all.new.space) (g.S.DiskSpace.sees.shown c.if-len-made.space)
     (row_of g.E.Machine.view c.in_ok-run.run') (row_of g.E.Machine.view c.if-len-made.run)
 before_call g c =
     let mid : Row = row_of g.E.Machine.view c.in_ok-run.run' in
@@ -226,8 +227,8 @@ before_call g c =
 
 -- the run stands before that call
 keeps_before : (g : Over) (c : Joined-len-made g) (told : Bool) (script : Script) (config : Config)
-    → RunStands told script config (g.S.Space.sees.shown c.args.space.now) (row_of g.E.Machine.view c.args.self)
-    → AwaitsCall told script config (g.S.Space.sees.shown c.if-len-made.space) 0
+    → RunStands told script config (g.S.DiskSpace.sees.shown c.args.space.now) (row_of g.E.Machine.view c.args.self)
+    → AwaitsCall told script config (g.S.DiskSpace.sees.shown c.if-len-made.space) 0
     (row_of g.E.Machine.view c.if-len-made.run) c.in-Some.thread
 keeps_before g c =
     awaits_call c.in-Some.thread c.in_ok-run.ensures.keeps c.requires.rests.waits c.in_ok-run.ensures.all
@@ -242,8 +243,8 @@ make_room-requires g c κs =
 -- what was counted before that call
 counts_before : (g : Over) (c : Joined-len-made g)
     → CountsBefore c.args.self.states.items c.if-len-made.run.states.items
-    (g.S.Space.sees.faults c.args.space.now) (g.S.Space.sees.faults c.if-len-made.space)
-    (g.S.Space.sees.read_faults c.args.space.now) (g.S.Space.sees.read_faults c.if-len-made.space)
+    (g.S.DiskSpace.sees.faults c.args.space.now) (g.S.DiskSpace.sees.faults c.if-len-made.space)
+    (g.S.DiskSpace.sees.read_faults c.args.space.now) (g.S.DiskSpace.sees.read_faults c.if-len-made.space)
 counts_before g c =
     let states : List ThreadState = c.args.self.states.items in
     let mid : List ThreadState = c.in_ok-run.run'.states.items in
@@ -258,7 +259,7 @@ counts_before g c =
 
 -- no reader was lent
 before_lends : (g : Over) (c : Joined-len-made g)
-    → g.S.Space.sees.lends c.if-len-made.space ≡ g.S.Space.sees.lends c.args.space.now
+    → g.S.DiskSpace.sees.lends c.if-len-made.space ≡ g.S.DiskSpace.sees.lends c.args.space.now
 before_lends g c =
     elim c.if-len-made.branch [
       | then-len-made+in_ok-run-2 w ↦ rw w.space-is (w.in_ok-run-2.ensures.lends ∙ c.in_ok-run.ensures.lends)
@@ -267,7 +268,7 @@ before_lends g c =
 
 -- and the disk is the one of before
 before_disk : (g : Over) (c : Joined-len-made g)
-    → g.S.Space.sees.name c.if-len-made.space ≡ g.S.Space.sees.name c.args.space.now
+    → g.S.DiskSpace.sees.name c.if-len-made.space ≡ g.S.DiskSpace.sees.name c.args.space.now
 before_disk g c =
     elim c.if-len-made.branch [
       | then-len-made+in_ok-run-2 w ↦ rw w.space-is (w.in_ok-run-2.ensures.same_disk ∙ c.in_ok-run.ensures.same_disk)
@@ -318,7 +319,7 @@ returns-clause-made g c =
         lowest_before c.args.self.states.items c.in_ok-run.run'.states.items c.in-Some.thread c.in_ok-run.ensures.all
             c.in-Some.ensures.first,
         record {
-          shown = g.S.Space.sees.shown c.if-len-made.space;
+          shown = g.S.DiskSpace.sees.shown c.if-len-made.space;
           mid = row_of g.E.Machine.view c.if-len-made.run;
           planned = (before_call g at).planned told script config (c.in_ok-run.ensures.keeps told script config had);
           awaits = keeps_before g at told script config had;

@@ -1,4 +1,4 @@
--- Epoch behind epoch, until all threads have ended.
+-- Epoch after epoch, until all threads have ended.
 use Rattle.std.proofs.Common.{refl, sym, ◌∙◌, subst, arith}
 use Rattle.std.proofs.lemmas.Result.{err_from_is_err_and}
 use Rattle.melt_safepoint.specs.Rows.{Row, RunStands, row_of}
@@ -10,14 +10,26 @@ use Rattle.melt_safepoint.proofs.Losses.{counts_then}
 use Rattle.melt_safepoint.proofs.StopLends.{twice_stop_first, twice_stop_then}
 use Rattle.melt_safepoint.proofs.run.Run.run_all.Goals as goal
 
-pub go_on-requires : goal.go_on-requires
-go_on-requires g c κs = ((refl, tt), (c.requires.engine, (c.requires.stands, (c.requires.settled, c.requires.own))))
+pub next_epoch-requires : goal.next_epoch-requires
+next_epoch-requires g c κs = (
+  (refl, tt),
+  (
+    c.requires.engine,
+    (
+      c.requires.stands,
+      (
+        c.requires.settled,
+        c.requires.own,
+      ),
+    ),
+  ),
+)
 
 pub returns-in_err-run-clause-stop_lends : goal.returns-in_err-run-clause-stop_lends
 returns-in_err-run-clause-stop_lends g c =
     let exit = err_from_is_err_and c.from_residual.result c.from_residual.ensures.1 in
     rw (exit.1, exit.2)
-    (λ n by. twice_stop_first _ _ _ _ _ (c.go_on.ensures.lends n by) c.in_err-run.ensures.stop_keeps)
+    (λ n by. twice_stop_first _ _ _ _ _ (c.next_epoch.ensures.lends n by) c.in_err-run.ensures.stop_keeps)
 
 pub loop-alloc-init : goal.loop-alloc-init
 loop-alloc-init g c =
@@ -26,14 +38,14 @@ loop-alloc-init g c =
     let goes = c.in_ok-run.ensures.goes in
     record {
       keeps = λ told script config stands.
-          subst (λ (shown : Shown). RunStands told script config shown new) (sym c.go_on.ensures.shown)
+          subst (λ (shown : Shown). RunStands told script config shown new) (sym c.next_epoch.ensures.shown)
           (goes_keeps told script config _ old new goes stands c.requires.settled c.requires.own);
       rests = goes_rests _ old new goes;
       lost = c.in_ok-run.ensures.lost;
-      lends = λ n by. twice_first _ _ _ _ _ (c.go_on.ensures.lends n by) (goes_journal _ old new goes);
-      idle = λ all. (goes_ended _ old new goes all, c.go_on.ensures.idle all);
-      count = c.go_on.ensures.count;
-      same_disk = c.go_on.ensures.same_disk;
+      lends = λ n by. twice_first _ _ _ _ _ (c.next_epoch.ensures.lends n by) (goes_journal _ old new goes);
+      idle = λ all. (goes_ended _ old new goes all, c.next_epoch.ensures.idle all);
+      count = c.next_epoch.ensures.count;
+      same_disk = c.next_epoch.ensures.same_disk;
     }
 
 pub pass_safepoint-requires : goal.pass_safepoint-requires
@@ -94,7 +106,7 @@ end-requires g c =
     let stands = c.requires.stands in
     record {
       stands = (
-        g.S.Space.sees.shown c.loop-alloc.space,
+        g.S.DiskSpace.sees.shown c.loop-alloc.space,
         (stands.0, stands.1, stands.2, c.loop-alloc.invariant.keeps stands.0 stands.1 stands.2 stands.3),
       );
       ended = c.has_ended.ensures.ended c.loop-alloc-test.false;

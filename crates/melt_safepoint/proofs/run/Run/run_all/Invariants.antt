@@ -1,4 +1,4 @@
--- What stood at the start stands on behind each epoch, and less is to do each time.
+-- What stood at the start stands on after each epoch, and less is to do each time.
 use Rattle.std.proofs.Common.{◌≡◌, ◌≤◌, ℕ}
 use Rattle.melt_safepoint.specs.Engines.{LendsEach}
 use Rattle.melt_safepoint.specs.Epochs.{RestsWell, to_do}
@@ -13,16 +13,17 @@ decreases-loop-alloc g l = to_do l.run.states.items
 
 abbrev pub invariant-loop-alloc : goal.invariant-loop-alloc
 invariant-loop-alloc g l = record {
-  keeps : KeepsRun (g.S.Space.sees.shown l.fn.space) (g.S.Space.sees.shown l.space) (row_of g.E.Machine.view l.fn.self)
+  keeps : KeepsRun (g.S.DiskSpace.sees.shown l.fn.space) (g.S.DiskSpace.sees.shown l.space) (row_of g.E.Machine.view
+      l.fn.self)
       (row_of g.E.Machine.view l.run);
   rests : RestsWell l.run.states.items;
-  lost : CountsLosses l.fn.self.states.items l.run.states.items (g.S.Space.sees.read_faults l.fn.space)
-      (g.S.Space.sees.read_faults l.space);
-  lends : (n : ℕ) → LendsEach g.C.Fn g.F.Fn g.E.Machine.view g.E.Machine.stored g.S.Space.sees l.fn.engine n
-      → LendsTwice n 1 (g.S.Space.sees.lends l.fn.space) (g.S.Space.sees.lends l.space)
+  lost : CountsLosses l.fn.self.states.items l.run.states.items (g.S.DiskSpace.sees.read_faults l.fn.space)
+      (g.S.DiskSpace.sees.read_faults l.space);
+  lends : (n : ℕ) → LendsEach g.C.Fn g.F.Fn g.E.Machine.view g.E.Machine.stored g.S.DiskSpace.sees l.fn.engine n
+      → LendsTwice n 1 (g.S.DiskSpace.sees.lends l.fn.space) (g.S.DiskSpace.sees.lends l.space)
       (journal_of (row_of g.E.Machine.view l.fn.self)) (journal_of (row_of g.E.Machine.view l.run));
   idle : AllEnded l.fn.self.states.items → AllEnded l.run.states.items
-      × (g.S.Space.sees.lends l.space ≡ g.S.Space.sees.lends l.fn.space);
-  count : g.S.Space.sees.faults l.fn.space ≤ g.S.Space.sees.faults l.space;
-  same_disk : g.S.Space.sees.name l.space ≡ g.S.Space.sees.name l.fn.space;
+      × (g.S.DiskSpace.sees.lends l.space ≡ g.S.DiskSpace.sees.lends l.fn.space);
+  count : g.S.DiskSpace.sees.faults l.fn.space ≤ g.S.DiskSpace.sees.faults l.space;
+  same_disk : g.S.DiskSpace.sees.name l.space ≡ g.S.DiskSpace.sees.name l.fn.space;
 }

@@ -1,4 +1,4 @@
--- The first thread that can go on is the one, and none behind it can.
+-- The first thread that can go on is the one, and none after it can.
 use Rattle.std.proofs.Common.{◌≡◌, ℕ, ◌+◌, ◌≤◌, rules, arith, inl, inr, refl, subst, List}
 use Rattle.std.proofs.lemmas.Bool.{cases_eq, cases_lt}
 use Rattle.std.specs.Prelude.{IfNone, None, Option, Some, slice_get}
@@ -11,7 +11,7 @@ returns-clause-all c given =
     let states : List ThreadState = c.args.states.now in
     let first : ℕ = c.in-Some.first in
     let none : c.first_from-other.result ≡ None = search rules in
-    let behind : (u : ℕ) (s : ThreadState) → first + 1 ≤ u → slice_get states u ≡ Some s → MayGo s.mode → ⊥ =
+    let after : (u : ℕ) (s : ThreadState) → first + 1 ≤ u → slice_get states u ≡ Some s → MayGo s.mode → ⊥ =
     subst (λ (found : Option ℕ). IfNone found ((u : ℕ) (s : ThreadState) → first + 1 ≤ u
     → slice_get states u ≡ Some s → MayGo s.mode → ⊥)) none c.first_from-other.ensures.none in
     record {
@@ -20,7 +20,7 @@ returns-clause-all c given =
         | inl same ↦ omega (arith, same, c.if-first-thread.false)
         | inr other ↦ absurd (elim (cases_lt u first) [
           | inl below ↦ c.in-Some.ensures.first.1 u (omega arith) below goes
-          | inr above ↦ behind u goes.0 (omega (arith, other, above)) goes.1 goes.2
+          | inr above ↦ after u goes.0 (omega (arith, other, above)) goes.1 goes.2
         ])
       ];
       turn = refl;

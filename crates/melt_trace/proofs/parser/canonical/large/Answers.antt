@@ -6,8 +6,8 @@ use Rattle.melt_trace.proofs.parser.canonical.large.Goals as goal
 pub loop-next-init : goal.loop-next-init
 loop-next-init c =
     let first = c.in_ok-first in
-    c.in_ok-behind.ensures ∙ ap (λ (ds : List ℕ). 32 ∷ ds)
-    (spelled_one first.first c.in_ok-behind.field-0.now first.rest.now first.ensures.low first.ensures.text)
+    c.in_ok-after_byte.ensures ∙ ap (λ (ds : List ℕ). 32 ∷ ds)
+    (spelled_one first.first c.in_ok-after_byte.field-0.now first.rest.now first.ensures.low first.ensures.text)
     ∙ ap (λ (n : ℕ). 32 ∷ (decimal n ++ first.rest.now)) (sym c.from-n.ensures)
 
 pub loop-next-preserved : goal.loop-next-preserved

@@ -2,7 +2,7 @@ use Rattle.std.proofs.Common.{arith}
 use Rattle.std.proofs.lemmas.Grind.{common_steps}
 use Rattle.melt_parts_tests.proofs.tests.scion.scions.give_again.Goals as goal
 
--- the first scion is another than the two that were added behind it and than the one that was freed
+-- the first scion is another than the two that were added after it and than the one that was freed
 pub free-requires-2 : goal.free-requires-2
 free-requires-2 c =
     let at_free = c.free.ensures.frees.others 1 in

@@ -2,7 +2,7 @@ use Rattle.std.proofs.Common.{arith}
 use Rattle.std.proofs.lemmas.Grind.{common_steps}
 use Rattle.melt_parts_tests.proofs.tests.scion.scions.walk_past_freed.Goals as goal
 
--- the first scion is another than the two that were added behind it and than the one that was freed
+-- the first scion is another than the two that were added after it and than the one that was freed
 pub next-requires-2 : goal.next-requires-2
 next-requires-2 c =
     let at_free = c.free.ensures.frees.others 1 in

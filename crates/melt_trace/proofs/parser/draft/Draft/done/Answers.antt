@@ -1,11 +1,11 @@
 use Rattle.std.proofs.Common.{◌≡◌, ◌≤◌, ◌++◌, List, [], ◌∷◌, length, arith, cond, eqb, sym, ap, subst, ◌∙◌}
 use Rattle.melt_trace.specs.declared.script.Item.{Item}
-use Rattle.melt_trace.specs.declared.language.Stage.TheVariants as stage
+use Rattle.melt_trace.specs.declared.language.Expected.TheVariants as stage
 use Rattle.melt_trace.specs.Script.{expand}
 use Rattle.melt_trace.specs.Language.{operation_count}
 use Rattle.melt_trace.specs.Drafts.{place_of, blocks_of, programs_so_far, capped, IsTallied}
 use Rattle.melt_trace.proofs.Tally.{tallied_none, tallied_done}
-use Rattle.melt_trace.proofs.Steps.{no_blocks, too_many, few_enough, behind_done}
+use Rattle.melt_trace.proofs.Steps.{no_blocks, too_many, few_enough, place_after_done}
 use Rattle.melt_trace.proofs.parser.draft.Draft.done.Goals as goal
 
 pub returns-then-total-gt-MAX_OPERATIONS : goal.returns-then-total-gt-MAX_OPERATIONS
@@ -34,8 +34,9 @@ returns c =
     let many : c.len.result ≡ length (programs_so_far draft ++ draft.items.items ∷ []) =
     c.len.ensures ∙ c.push.new.self.ok.0 ∙ ap length pushed
     in
-    let next = c.behind-self.ensures ∙ ap (λ n. cond (eqb n draft.threads) stage.Over stage.Between) many in (
-      step.1 ∙ behind_done draft.threads draft.globals draft.orders.items next pushed none (ap (blocks_of 0) closed),
+    let next = c.expected_after-self.ensures ∙ ap (λ n. cond (eqb n draft.threads) stage.Over stage.Between) many in (
+      step.1 ∙ place_after_done draft.threads draft.globals draft.orders.items next pushed none (ap (blocks_of 0)
+          closed),
       record {
         globals = c.requires.sound.globals;
         tallied = rw (none, closed) tallied_none;

@@ -1,0 +1,2 @@
+# The same as after --help.
+bash "$(dirname -- "$0")/../usage-help/said.sh"

@@ -1,2 +1,0 @@
-# The same as behind --help.
-bash "$(dirname -- "$0")/../usage-help/told.sh"
