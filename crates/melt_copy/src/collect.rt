@@ -122,11 +122,13 @@ pub fn collect_copy<L: Ledger>(
     ensures registers_stay { OnErr result (held.new ≡ held.old) }
     ensures visits { VisitsAtMost 4 heap.old held.old steps.old steps.new }
 {
+    // From here to `ToSpace::new` all memory is taken. After that nothing can fail, so nothing has to be undone.
     let words = words_for_copy(alloc, heap)?;
     let live = live_scions(alloc, &heap.scions, steps)?;
     let names = take_names(alloc, &mut heap.names, heap.space.words())?;
     let mut to = ToSpace::new(words, names);
     to.evacuate_held(&mut heap.space, held, steps);
+    // Objects in registers are copied before all others: where a copy stands tells whether it is held.
     let held_words = to.next;
     to.move_globals(&mut heap.space, phase, &mut heap.globals.items, steps);
     to.evacuate_scions(&mut heap.space, &mut heap.scions, &live, steps);

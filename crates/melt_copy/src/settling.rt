@@ -63,6 +63,8 @@ fn settle_one<D: StaleDisk>(
     ensures same_disk { space.new.disk.ghost_name ≡ space.old.disk.ghost_name }
 {
     let shape = heap.space.shape(address);
+    // The Stub is on disk before the home word names its scion: till then the home counts as forwarded, and a write
+    // that fails may leave anything there.
     let scion = heap.scions.add(home, address);
     if let Err(failed) = space.write_stub(home, shape, scion) {
         heap.scions.free(scion);

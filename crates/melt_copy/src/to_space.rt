@@ -111,6 +111,7 @@ impl ToSpace {
         self.put(space.words_at(address, cost(shape)), steps);
         self.moves = Ghost::pick(&(&self.moves, address, to, shape));
         carry_name(&mut self.names, address, to);
+        // The old header was copied already. From here on its place says where the object went.
         space.set_word(address, encode_ref(Ref::Clean(to)));
         to
     }
@@ -204,6 +205,7 @@ impl ToSpace {
         ensures visits { steps.new + self.old.next ≤ steps.old + 2 * self.new.next }
     {
         let mut done = 0;
+        // What was copied and not scanned yet is the queue, as in Cheney's collector.
         while done < self.next {
             steps.tick();
             done = self.scan_object(space, phase, done < held_words, done, steps);

@@ -85,6 +85,7 @@ impl Core {
                 shape,
                 stale: false,
             };
+            // Last, as for a new object: until then the words belong to no object.
             self.set_word(address, encode_header(header));
             Stage::Copied { activation }
         };

@@ -1,4 +1,14 @@
-//! The machine of events: a heap over which the calls of several threads go on one event at a time.
+//! Events of calls: a small-step machine, in which calls of several threads go on over one heap.
+//!
+//! An event is what running threads can do at once: a load, a store, an exchange. Each is proved in every state, so
+//! every interleaving is proved, and nothing is proved of an interleaving as a whole. Between two events a call is a
+//! value, its `Stage`, which holds what it knows and all that it has left to do. No event of another thread makes that
+//! untrue, so a call never looks again at what it knows.
+//!
+//! All events go through one law, `event_keeps` (`proofs/Keeping.antt`), over the constructors of `Event`. It speaks of
+//! states and not of a core, which is how `melt_rule` takes it for words that threads share.
+//!
+//! Start with `advance` and the table of events in `docs/ARCHITECTURE.md`.
 #![tactic(auto)]
 
 mod advance;

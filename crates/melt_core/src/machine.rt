@@ -133,6 +133,7 @@ impl Core {
             free,
             stop: _,
         } = self;
+        // A claim that ended past the last word has raised the first free place all the same.
         let used = free.saturating_sub(1).min(heap.space.words());
         heap.space.set_used(used);
         heap.maps = GhostMaps::pick(&heap);

@@ -51,6 +51,7 @@ impl Core {
         match head.kind {
             Kind::Body => Ok(stage_after_head(search, head.shape)),
             Kind::Stub { scion } => match self.heap.scions.get(scion) {
+                // A Stub may lie: its scion has to be live, and for this very home.
                 Some((home, target)) if home == search.home => Ok(Stage::Looked {
                     place: search.place,
                     found: Ref::Disk(home),
@@ -128,6 +129,7 @@ impl Core {
             → IsDamage (R.image reader.old) end (view self.old) thread damaged }
     {
         let len = usize::from(shape.refs) + usize::from(shape.nums);
+        // Read into a copy of the buffer, which is put back only if all is sound: what fails changes nothing.
         let mut record = self.rest.records[thread as usize];
         let words = &mut record[..len];
         if reader.read_at(search.home + 2, words).is_err() {

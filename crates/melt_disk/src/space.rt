@@ -103,6 +103,7 @@ impl<'d, D: StaleDisk> StaleSpace<'d, D> {
         ensures disk { self.new.disk.now ≡ self.old.disk.now }
     {
         let need = cost(shape);
+        // In 64 bits, as the end may be near 2^32.
         if u64::from(self.end) + u64::from(need) > u64::from(self.limit) {
             return Err(DiskFull {
                 end: self.end,
@@ -140,6 +141,7 @@ impl<'d, D: StaleDisk> StaleSpace<'d, D> {
         ensures same_disk { self.new.disk.ghost_name ≡ self.old.disk.ghost_name }
     {
         let len = cost(shape) as usize;
+        // On the stack and as large as any record, so that a write takes no memory and cannot fail for want of it.
         let mut words = [0; MAX_COST];
         encode_body(home, shape, slots, &mut words[..len]);
         write_record(self.disk, home, &words[..len])

@@ -51,6 +51,7 @@ pub(crate) fn seek(
             Some(_) => search.tried += 1,
         }
     }
+    // No word is left for an object that comes back: the collection that is asked for here empties them.
     words.stop_filled(seat, search);
     Err(Refusal::Pause(Pause::Forward))
 }

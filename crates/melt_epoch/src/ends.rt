@@ -158,6 +158,7 @@ impl Epoch {
         let seat = take_seats(&words, mutators);
         heap.maps = GhostMaps::pick(&(&words, &seat));
         let mut pass = Pass::new();
+        // Before the seat is given up: only a seat that has taken in all others has seen all of the history.
         pass.note(&seat);
         let ended = words.close(seat);
         put_back(&ended, &mut heap);

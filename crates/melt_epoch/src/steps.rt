@@ -29,6 +29,7 @@ pub(crate) fn read_number(
     if address == 0 {
         return Ok(Reply::Nil);
     }
+    // A call is refused here or not at all: once past the poll, it ends without waiting for anyone.
     if words.poll(seat) {
         return Err(Refusal::Pause(Pause::Asked));
     }

@@ -13,6 +13,7 @@ use rand_xoshiro::SplitMix64;
 pub fn draws_of(seed: u64, thread: u32) -> SplitMix64
     ensures { result ≡ (seed + thread) % 2 ^ 64 }
 {
+    // It wraps, since a seed may be any number of 64 bits: so thread 1 of the largest one has the seed 0.
     SplitMix64::seed_from_u64(seed.wrapping_add(u64::from(thread)))
 }
 
@@ -38,6 +39,7 @@ fn queue_count(mut draws: SplitMix64, size: u32) -> u32
 {
     let mut count = 0;
     for k in 0..size {
+        // All words are drawn here once more: they say in which rounds the first object leaves.
         count += 6 + front_count(&mut draws, k);
     }
     count + 3

@@ -205,6 +205,7 @@ where
 /// Makes the file that is at `PATH` then. One that is there from before is removed, and so is that of a run that was faster.
 fn make_new<R: Files>(files: &R) -> io::Result<R::File> {
     let mut how = OpenOptions::new();
+    // `create_new` opens nothing that is there and follows no link, so the file is this run's own.
     how.read(true).write(true).create_new(true);
     how.mode(OWNER_ALONE);
     for _ in 0..TRIES {

@@ -182,6 +182,7 @@ where
         ensures writes { self.new.writes ≡ self.old.writes }
     {
         self.lends = self.lends.saturating_add(1);
+        // Each epoch lends a reader to each thread: a buffer that came back saves taking and zeroing a new one.
         let piece = match self.spare.take() {
             Some(piece) if piece.len() == 8 * PIECE => piece,
             _ => vec![in alloc; 0; 8 * PIECE].map_err(|_| LendRefusal::NoMemory)?,
@@ -222,6 +223,7 @@ fn open_file<F: PositionedFile>(file: &mut F) -> Result<Option<F::Reader>, Faile
     ensures no_fault { OnOk result (F.faults file.new ≡ F.faults file.old) }
     ensures failed { OnErr result (Rose (F.faults file.old) (F.faults file.new)) }
 {
+    // A disk that was never written has no file to open. Lending is no fault then; each read of such a reader is one.
     if !file.is_made() {
         return Ok(None);
     }
@@ -246,6 +248,7 @@ fn write_file<F: PositionedFile>(
     ensures no_fault { OnOk result (F.faults file.new ≡ F.faults file.old) }
     ensures failed { OnErr result (Rose (F.faults file.old) (F.faults file.new)) }
 {
+    // Not before the first write, so that a run that moves nothing needs no folder in which a file can be made.
     if !file.is_made() {
         file.create()?;
     }

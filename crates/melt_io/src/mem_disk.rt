@@ -97,6 +97,7 @@ impl RecordReader for MemReader {
             return Err(self.faults.rise());
         }
         copy_words(&self.image, at as usize, words);
+        // After the copy, so that a lie changes what this reader is told and never the disk.
         tell_lies(&self.lies, self.lend, at, words);
         Ok(())
     }

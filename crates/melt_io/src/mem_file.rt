@@ -105,6 +105,7 @@ impl PositionedReader for MemFileReader {
         if is_due(&mut self.calls, &self.fail) {
             return Err(self.faults.rise());
         }
+        // One byte at least, since a read that gives none says that the file ends there.
         let end = buf.len().min(self.most.max(1));
         Ok(copy_bytes(&self.bytes, at as usize, &mut buf[..end]))
     }

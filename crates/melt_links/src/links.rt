@@ -81,6 +81,7 @@ impl Links {
         requires alone { StandsNowhere self.old node }
         ensures { self.new ≡ pushed self.old list node }
     {
+        // The place before the first node is that of the list itself, so an empty list needs no case.
         let root = self.nodes + list;
         let next = self.places[root as usize].next;
         let place = Place {
@@ -137,6 +138,7 @@ impl Links {
     fn node_at(&self, place: u32) -> Option<u32>
         ensures { result ≡ node_of self.now.nodes place }
     {
+        // The places of lists come after those of nodes: a walk that comes to one is back at the sentinel.
         (place < self.nodes).then_some(place)
     }
 }

@@ -1,5 +1,11 @@
-//! The model of a heap that never collects: plain types, and in `specs/` the definitions that every
-//! contract of the workspace cites.
+//! The specification of a heap that never collects: a sequential history of loads and stores on numbered objects.
+//!
+//! There is no memory in it and no address. What a thread is told follows from its operations and from the entries of
+//! the history, by looking back along it: a slot holds what was written to it last. All other crates are held to this,
+//! so a contract never speaks of a collector, a disk or another thread in order to say what an operation answers.
+//!
+//! Start with the types in `history`, then `specs/History.antt` (`Legal`) and `specs/Thread.antt` (`Transcript`).
+//! Bodies that compute these definitions are in `melt_model_tests`.
 #![tactic(auto)]
 
 pub mod config;

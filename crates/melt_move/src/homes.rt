@@ -135,6 +135,7 @@ impl Giving {
         }
         let need = cost(shape);
         self.homes.given.push(Given { from, shape })?;
+        // One more than the distance from the first new home, so that 0 is left for an object that gets none.
         self.homes.offsets[from as usize] = self.need + 1;
         self.homes.counts[need as usize] += 1;
         self.need += need;
@@ -209,6 +210,7 @@ pub fn give_homes<L: Ledger>(
 {
     let marks = mark_named(alloc, space, &choice.leaving, steps)?;
     let mut giving = Giving::new(alloc, space, first)?;
+    // What leaves comes before what is named by it, so the new Bodies of a collection lie together on disk.
     giving.give_leaving(space, choice, steps)?;
     giving.give_named(space, choice, &marks, steps)?;
     Ok(giving.homes)

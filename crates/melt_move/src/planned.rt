@@ -112,6 +112,7 @@ pub fn collect_planned<D: StaleDisk, L: Ledger>(
         → Rose (D.faults disk.old.disk.now) (D.faults disk.new.disk.now) }
     ensures keeps { KeepsDisk D.image D.faults D.read_faults D.lends disk.old disk.new }
 {
+    // In every phase: a collection finds what came back by its scion, and the next epoch needs empty forwarding words.
     let Ok(settled) = settle(&mut heap, disk) else {
         drop_held(held, steps);
         return Err(MoveRefusal::DiskFault);

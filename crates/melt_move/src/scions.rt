@@ -83,6 +83,7 @@ fn give_scion<D: StaleDisk>(
     ensures keeps { KeepsDisk D.image D.faults D.read_faults D.lends disk.old disk.new }
     ensures end { disk.new.end ≡ disk.old.end }
 {
+    // The scion is not freed where the write fails: the heap is given up then.
     let scion = heap.scions.add(home, m.to);
     disk.write_stub(home, m.shape, scion)?;
     let word = encode_home(Some(HomeWord { home, scion }));

@@ -89,6 +89,7 @@ pub(crate) fn hand_out<'a, R: Drop>(
     ensures none { states.new.items ≡ [] }
     ensures room { vec_capacity states.new ≡ vec_capacity states.old }
 {
+    // From the end, so that none is shifted, and the list keeps its memory for when they come back.
     while let Some(state) = states.pop() {
         let m = &mut mutators[states.len()];
         let Some(mut worker) = m.take_reader() else {

@@ -63,6 +63,7 @@ fn run_after<X: Threads + Sync, R: RecordReader + Send + Drop, G: Gate + Sync>(
     ensures came { AllCame R.faults epoch.now.end every (Some t) epoch.now.words mutators.old mutators.new result }
 {
     let came = call_first(epoch, &mut mutators[t as usize], every);
+    // Where the call lacks room still, no thread runs: nothing was done then, and a Move can be forced at once.
     if let First::Went = came {
         run_all(rt, epoch, mutators, every, gate);
     }

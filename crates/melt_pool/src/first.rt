@@ -37,6 +37,7 @@ fn first_of(answer: Result<Reply, Refusal>) -> First
 {
     match answer {
         Err(Refusal::Pause(Pause::Space { need })) => First::Lacked(need),
+        // Nobody else runs, the stop word is not set and all forwarding words are empty.
         Err(Refusal::Pause(Pause::Asked | Pause::Forward)) => First::Stopped,
         Ok(_) | Err(Refusal::DiskFault | Refusal::Damaged(_)) => First::Went,
     }

@@ -138,6 +138,7 @@ pub(crate) fn run_program<R: RecordReader, G: Gate>(
         → ThreadWentOn every script m.old m.new state.old state.new }
     ensures caused { WaitsByCause state.old.mode state.new.mode m.new }
 {
+    // A gate is told of an operation once, also where its call is refused and made again.
     let mut is_announced = make_again(state);
     while state.can_go() {
         if !is_announced {

@@ -171,6 +171,7 @@ fn new_run<'a, R: Drop>(
     ensures none_made { IfOk result (λ run. journal_of (row_of parallel_view run) ≡ []) }
     ensures idle { IfOk result (λ run. HasNoOperations trace.now → AllEnded run.states.items) }
 {
+    // No entry is stored by threads, so no room is taken for them.
     let (states, _entries) = new_states(alloc, trace)?;
     Ok(Run {
         machine: new_parallel(alloc, trace, config)?,

@@ -72,6 +72,7 @@ fn shape_of(home: u32, end: u32, word: u64) -> Option<Shape>
         refs: refs as u8,
         nums: nums as u8,
     };
+    // A shape that is too large for the place would have the rest read past all homes, so it is damage here already.
     if u64::from(home) + u64::from(cost(shape)) > u64::from(end) {
         return None;
     }
@@ -100,6 +101,7 @@ pub fn decode_head(home: u32, end: u32, words: [u64; 2]) -> Result<Head, Damaged
     ensures err { IfErr result (IsHeadDamage home end (slice_index words 0) (slice_index words 1)) }
 {
     let [first, second] = words;
+    // The first word is looked at before the second, so that damage is told of the first place at which there is any.
     let Some(shape) = shape_of(home, end, first) else {
         return Err(Damaged {
             home,

@@ -50,6 +50,7 @@ impl Words {
         ensures clears { (place : Place) (found : Ref) → (knows_of seat.old).doing ≡ Some (Looked place found target)
             → Reaches (knows_of seat.old) (knows_of seat.new) (Some (Cleared place found target)) }
     {
+        // No compare-exchange: whoever clears the bit first, it is clear, and nothing else of the header changes.
         let at = self.before + target as usize;
         self.table
             .shared
@@ -68,6 +69,7 @@ impl Words {
             → Reads (knows_of seat.old) (knows_of seat.new) (slot.Field n i) result }
     {
         let at = self.before + object as usize + 2 + i as usize;
+        // Another thread may have stored into the slot since the look. Then the load is answered with what it stored.
         let old = encode_ref(found);
         let new = encode_ref(Ref::Clean(target));
         let seen = self

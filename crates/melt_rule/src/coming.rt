@@ -207,6 +207,7 @@ impl Words {
             .table
             .shared
             .fetch_add::<ClaimCopy<B>>(seat, FREE_AT, need);
+        // A fetch-and-add does not look first. Words that it takes past the last one are nobody's till a collection.
         if found + need > u64::from(self.size) + 1 {
             return None;
         }
@@ -258,6 +259,7 @@ impl Words {
         let at = self.forward_at(search);
         let shared = &self.table.shared;
         let new = pack(search.home, address);
+        // Only from 0: a word that is filled stays, which is what lets all threads read it without a lock.
         unpack(shared.compare_exchange::<Commit>(seat, at, 0, new))
     }
 }

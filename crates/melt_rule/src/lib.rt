@@ -1,4 +1,5 @@
-//! The words that the threads of an epoch share, and the rule that holds of them between any two steps.
+//! The rule over shared words: the invariant that ties them and the views of all threads to one history, and that each
+//! atomic step keeps.
 //!
 //! Threads read and write one table of words in single steps, without a lock. Each has a seat, and a seat has a view:
 //! what its thread knows, which takes no bytes. The rule ties words and views to one history: there is one, it is

@@ -91,6 +91,7 @@ impl Words {
         ensures seat { Sits self.now seat.new }
         ensures takes { knows_of seat.new ≡ joined_view (knows_of seat.old) (knows_of other) }
     {
+        // Counts add up and what was seen is joined, so the last seat left knows the whole history.
         self.table.shared.join_seat::<Takes>(seat, other);
     }
 

@@ -92,6 +92,7 @@ impl<'a> Ended<'a> {
         for state in self.states {
             let end = match state.mode {
                 Mode::Ended(end) => end,
+                // A run ends when all threads have ended, and a halt ends those that have not.
                 _ => unreachable!(),
             };
             threads.push(ThreadReport {

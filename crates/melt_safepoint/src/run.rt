@@ -132,6 +132,7 @@ impl<'a, E: Machine> Run<'a, E> {
         if self.has_ended() {
             return Ok(self);
         }
+        // No call is made first here, so there is none whose want of words is to be answered.
         let (run, _lacks) = engine.run_epoch(self, alloc, space, None)?;
         Ok(run)
     }

@@ -218,6 +218,7 @@ impl<'a, E: Machine> Run<'a, E> {
             held
             → self.now.words < held + need) }
     {
+        // Two are enough: the first leaves all that no register holds stale, and the second takes all of that away.
         forced < 2 && self.may_fit(need)
     }
 
@@ -401,8 +402,10 @@ impl<'a, E: Machine> Run<'a, E> {
         let made = self.collector.journal.len();
         let run = self.collect_for_all(alloc, space, engine)?;
         let Some(thread) = run.lacking() else {
+            // All that was waited for was made; calls that were refused for it are made again in the epoch.
             return run.next_epoch(alloc, space, engine);
         };
+        // One that was made here for a thread that waited will do: the call is to come after a collection, whosever.
         let run = if run.collector.journal.len() == made {
             run.collect(alloc, space, engine, false)?
         } else {

@@ -93,6 +93,7 @@ impl Heap {
         };
         Ok(Heap {
             space: Space::new(alloc, words)?,
+            // An object has two words at least, so there is a scion for each that could be in use.
             scions: ScionTable::new(alloc, words / 2)?,
             globals: Globals {
                 items: vec![in alloc; 0; globals as usize]?,

@@ -45,6 +45,7 @@ impl ScionTable {
         let pairs = vec![in alloc; None; n as usize]?;
         let mut links = Links::new(alloc, n, 2)?;
         for pushed in 0..n {
+            // From the highest on, since each goes to the front: so the lowest is given first.
             links.push_front(UNUSED, n - 1 - pushed);
         }
         Ok(ScionTable { pairs, links })

@@ -80,6 +80,7 @@ fn exchange(list: &mut Vec<u64>, mut words: Vec<u64>, count: usize) -> Vec<u64>
     if complete(&mut words, count, list) {
         return replace(list, words);
     }
+    // The smaller part moves. Here what stands after the copy is as much or more, or has no room there.
     put_front(list, &words[..count]);
     words
 }

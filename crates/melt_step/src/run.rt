@@ -55,6 +55,7 @@ pub fn new_run<'a, const STORED: usize>(
         config.forward,
         STORED == 1,
     )?;
+    // All of it now, so that no event of the run takes memory.
     let room = if STORED == 1 { entries } else { 0 };
     let rest = Rest::new(alloc, trace.threads(), room)?;
     Ok(Run {

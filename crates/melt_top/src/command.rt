@@ -143,6 +143,7 @@ fn read_plain_texts(options: &ArgMatches<'_>) -> Texts
     Texts {
         quiet: options.get_flag("quiet"),
         table: options.get_flag("table"),
+        // A run by threads stores no history, so there is no log to write.
         log: false,
     }
 }

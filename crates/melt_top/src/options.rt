@@ -145,6 +145,7 @@ pub fn options_given<'a>(
     requires { 0 < length words.now }
     ensures { Parses (names_of_verb verb) (drop 1 (map string_bytes words.entry.now)) result }
 {
+    // The parser would take `--` as an end of options; here nothing can come after them.
     if has_dashes(&words[1..]) {
         return Err(WordsRefusal::Usage);
     }

@@ -37,6 +37,7 @@ fn take_next<'a>(draft: &mut Draft, alloc: Global, bytes: &'a [u8]) -> Result<&'
     requires some { 0 < length bytes.now }
     ensures { TakesLine (λ rest. rest.now) result bytes.now draft.old draft.new }
 {
+    // Only within a program: elsewhere the same text is out of place, and the other way has the reason.
     if matches!(draft.stage, Expected::Inside)
         && let Some((op, rest)) = canonical_operation(bytes, draft.globals)
     {
@@ -53,6 +54,7 @@ fn read_lines(alloc: Global, bytes: &[u8]) -> Result<Draft, ParseRefusal>
     ensures found { IfOk result (λ draft. script_of bytes.now ≡ Ok (place_of draft).script) }
     ensures refused { IfErr result (IsRefusedTrace bytes.now) }
 {
+    // Before any line is looked at, so that what is wrong does not hang on where reading stopped.
     if bytes.len() > MAX_BYTES {
         return Err(ParseRefusal::Bad(TraceError::too_long()));
     }

@@ -1,4 +1,11 @@
-//! The words of an in-use heap space: references, the headers of objects, and their homes on disk.
+//! The encoding of the words of a heap: tagged references, object headers, and home words.
+//!
+//! Each kind of word has one definition, from values to numbers, and it is injective. So an encoder has no choice, and
+//! a decoder accepts exactly the words that some value has. `reference_of` and `shape_of` are for words that are known
+//! to be of their kind: they test nothing, since the heap's invariant says which kind each word is of.
+//!
+//! Start with `reference`: the low two bits are the tag by which a read barrier takes its slow path. A header is told
+//! from a clean reference by its lowest bit, which is how a copy leaves a forwarding pointer in the place of a header.
 #![tactic(auto)]
 
 pub mod header;

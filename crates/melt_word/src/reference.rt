@@ -113,6 +113,7 @@ pub fn reference_of(word: u64) -> Ref
     if word == 0 {
         return Ref::Null;
     }
+    // No range is tested: this stands on the fast path of each load, and that the word is of a reference is known.
     let number = (word >> TAG_BITS) as u32;
     match word & TAG_MASK {
         CLEAN => Ref::Clean(number),

@@ -68,6 +68,7 @@ fn large(bytes: &[u8]) -> Option<(u64, &[u8])>
     let (first, mut rest) = digit(after_byte(bytes, b' ')?)?;
     let mut n = u64::from(first);
     while let Some((next, others)) = digit(rest) {
+        // A leading zero, or a digit more than 64 bits have: no canonical number. The other way finds what is wrong.
         if n == 0 || n > MOST_TENS {
             return None;
         }

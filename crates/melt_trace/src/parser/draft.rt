@@ -114,6 +114,7 @@ impl Draft {
             return Err(Fault::Bad(Reason::TooDeep));
         }
         self.items.push(Item::Repeat(times))?;
+        // The innermost block is the first, since the next `end` is its own.
         let before = self.count;
         self.blocks.push_front(Block { times, before })?;
         self.count = 0;
@@ -131,6 +132,7 @@ impl Draft {
             return Err(Fault::Bad(Reason::EmptyBlock));
         }
         self.items.push(Item::End)?;
+        // Counts saturate and never wrap, so a block that is far too long is refused at `done` still.
         let unrolled = block.times.saturating_mul(self.count);
         self.count = block.before.saturating_add(unrolled);
         Ok(())

@@ -145,6 +145,7 @@ pub fn take_line(draft: &mut Draft, alloc: Global, line: &[u8]) -> Result<(), Fa
     requires { IsSoundDraft draft.old }
     ensures { LeadsTo result draft.new (after (place_of draft.old) line.now) }
 {
+    // Before comments are skipped: a byte that is no text is refused there too.
     if !is_printable_line(line) {
         return Err(Fault::Bad(Reason::BadByte));
     }

@@ -81,6 +81,7 @@ impl Limits {
         ensures high { result.high ≤ globals }
     {
         let (low, high) = match globals {
+            // No number is in the range of no globals.
             0 => (1, 0),
             _ => (0, u64::from(globals) - 1),
         };
