@@ -25,7 +25,7 @@ use Rattle.melt_epoch.specs.Calls.{Counts, HoldsOnly, IsMade, IsPlain, Lacked, R
 use Rattle.melt_epoch.specs.Loading.{IsGlobalLoaded, IsSlotLoaded, LoadAsked, LoadRefused}
 use Rattle.melt_epoch.specs.Mutators.{IsSeated}
 use Rattle.melt_epoch.specs.declared.mutator.Mutator.{Mutator}
-use Rattle.melt_safepoint.specs.Needs.{IsLoad}
+use Rattle.melt_safepoint.specs.Needs.{IsLoad, StopsAtSafepoint}
 use Rattle.melt_pool.specs.Calling.{IsCalled, NeedsAt, NeedsIn, RefusedFor, RefusedKeeps, SameCauses, WasSpaced}
 
 -- what a call leaves that counts so
@@ -60,16 +60,17 @@ same_seat m s t a b = cc
 module _ {R : Type 0} (image : R → Option (List ℕ)) (faults : R → ℕ) (told : Bool) (scions : Scions) (end : ℕ)
     (m n : Mutator R) where
   -- a call that claims no words
-  pub plain_called : (o : Op) (steps : ℕ) (result : Result Reply Refusal) → IsPlain m n o steps result
-      → IsCalled image faults told scions end m n o result
-  plain_called o steps (Ok reply) is s t p q ms nt mp nq =
+  pub plain_called : (o : Op) (steps : ℕ) (result : Result Reply Refusal) → StopsAtSafepoint o
+      → IsPlain m n o steps result → IsCalled image faults told scions end m n o result
+  plain_called o steps (Ok reply) stops is s t p q ms nt mp nq =
       let plain = is.1 s t ms nt in (plain.comes, same_by (knows_of s) (knows_of t) 0 0 steps plain.counts)
-  plain_called o steps (Err refused) is s t p q ms nt mp nq =
+  plain_called o steps (Err refused) stops is s t p q ms nt mp nq =
       let plain = is.1 s t ms nt in
       let why : RefusedFor told (image p) scions end (faults p) (faults q) (knows_of s) (knows_of t) m.values o
       (Pause Asked) = (
         same_by (knows_of s) (knows_of t) 0 0 steps plain.counts,
         ap (λ (x : View). x.stopped) plain.refused.1.1,
+        stops,
       ) in (
         plain.comes.0,
         plain.comes.1,
@@ -92,7 +93,8 @@ module _ {R : Type 0} (image : R → Option (List ℕ)) (faults : R → ℕ) (to
       RefusedFor told (image p) scions end (faults p) (faults q) v w m.values (New dst z.refs z.nums) in
       elim made.1 [
         | inl asks ↦
-            let why : Why (Pause Asked) = (same_by v w 0 0 1 asks.counts, ap (λ (x : View). x.stopped) asks.was.1.1) in
+            let why : Why (Pause Asked) =
+            (same_by v w 0 0 1 asks.counts, ap (λ (x : View). x.stopped) asks.was.1.1, tt) in
             (asks.sees, made.0, subst Why (sym asks.was.0) why)
         | inr lacks ↦
             let why : Why (Pause (Space (cost_of z))) =
@@ -110,8 +112,10 @@ module _ {R : Type 0} (image : R → Option (List ℕ)) (faults : R → ℕ) (to
       let Why : Refusal → Type 0 =
       RefusedFor told (image p) scions end (faults p) (faults q) (knows_of s) (knows_of t) m.values o in
       let filled = full.full.filled in
-      let forwarded : Why (Pause Forward) =
-      record { thread = filled.thread; began = filled.began; forwarded = filled.forwarded; won = filled.won } in
+      let forwarded : Why (Pause Forward) = (
+        record { thread = filled.thread; began = filled.began; forwarded = filled.forwarded; won = filled.won },
+        loads,
+      ) in
       (full.full.sees, subst Why (sym full.full.is) forwarded)
   load_refused o {most} why s t p q loads needs (inr (inl lacks)) =
       let Why : Refusal → Type 0 =
@@ -136,14 +140,17 @@ module _ {R : Type 0} (image : R → Option (List ℕ)) (faults : R → ℕ) (to
   load_refused o {most} (Pause cause) s t p q loads needs (inr (inr lost)) = absurd lost.lost
 
   -- or refused as the stop word was set
-  load_asked : (o : Op) {most : ℕ} {why : Refusal} (s t : Seat ℕ View) (p q : R)
+  load_asked : (o : Op) {most : ℕ} {why : Refusal} (s t : Seat ℕ View) (p q : R) → StopsAtSafepoint o
       → LoadAsked (knows_of s) (knows_of t) most why → Sees (knows_of s) (knows_of t).seen
       × RefusedFor told (image p) scions end (faults p) (faults q) (knows_of s) (knows_of t) m.values o why
-  load_asked o {most} s t p q asked =
+  load_asked o {most} s t p q stops asked =
       let Why : Refusal → Type 0 =
       RefusedFor told (image p) scions end (faults p) (faults q) (knows_of s) (knows_of t) m.values o in
-      let is_asked : Why (Pause Asked) =
-      (same_by (knows_of s) (knows_of t) 0 0 most asked.stays.counts, ap (λ (x : View). x.stopped) asked.was.1.1) in
+      let is_asked : Why (Pause Asked) = (
+        same_by (knows_of s) (knows_of t) 0 0 most asked.stays.counts,
+        ap (λ (x : View). x.stopped) asked.was.1.1,
+        stops,
+      ) in
       (asked.stays.sees, subst Why (sym asked.was.0) is_asked)
 
   -- a load of a slot
@@ -159,7 +166,7 @@ module _ {R : Type 0} (image : R → Option (List ℕ)) (faults : R → ℕ) (to
       × RefusedFor told (image p) scions end (faults p) (faults q) (knows_of s) (knows_of t) m.values (Load dst src i)
       refused =
       elim loaded.3 [
-        | inl asked ↦ load_asked (Load dst src i) s t p q asked
+        | inl asked ↦ load_asked (Load dst src i) s t p q tt asked
         | inr because ↦ load_refused (Load dst src i) refused s t p q tt (λ need at. (loaded.1, loaded.2, at)) because
       ] in
       (why.0, loaded.0, why.1)
@@ -177,7 +184,7 @@ module _ {R : Type 0} (image : R → Option (List ℕ)) (faults : R → ℕ) (to
       × RefusedFor told (image p) scions end (faults p) (faults q) (knows_of s) (knows_of t) m.values (GLoad dst g)
       refused =
       elim loaded.1 [
-        | inl asked ↦ load_asked (GLoad dst g) s t p q asked
+        | inl asked ↦ load_asked (GLoad dst g) s t p q tt asked
         | inr because ↦ load_refused (GLoad dst g) refused s t p q tt (λ need at. at) because
       ] in
       (why.0, loaded.0, why.1)

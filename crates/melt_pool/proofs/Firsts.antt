@@ -114,7 +114,7 @@ module _ {R : Type 0} (image : R → Option (List ℕ)) (faults : R → ℕ) (sc
   has_stayed every p q op (Err (Pause Asked)) refused before seated mp nq next called count keeps =
       let call =
       by_views image faults script words scions finish m n s p q op (Err (Pause Asked)) before seated mp nq called in
-      record { seated = seated; why = inl call.2 }
+      record { seated = seated; why = inl (call.2.0, call.2.1) }
   has_stayed every p q op (Err (Pause (Space need))) refused before seated mp nq next called count keeps =
       let call =
       by_views image faults script words scions finish m n s p q op (Err (Pause (Space need))) before seated mp nq
@@ -128,7 +128,7 @@ module _ {R : Type 0} (image : R → Option (List ℕ)) (faults : R → ℕ) (sc
   has_stayed every p q op (Err (Pause Forward)) refused before seated mp nq next called count keeps =
       let call =
       by_views image faults script words scions finish m n s p q op (Err (Pause Forward)) before seated mp nq called in
-      record { seated = seated; why = inr call.2 }
+      record { seated = seated; why = inr call.2.0 }
 
 -- what came of the call, where its thread was taken out and put in
 module _ {R : Type 0} (faults : R → ℕ) (finish every : ℕ) (words : EpochWords) (m r n : Mutator (Worker R))

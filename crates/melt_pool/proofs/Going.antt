@@ -131,7 +131,8 @@ module _ {R : Type 0} (image : R → Option (List ℕ)) (faults : R → ℕ) (sc
       subst (λ (x : ThreadState). Works script words (dropped_for x.mode n) x) (sym took)
       (goes_on script words m n s works seated (mode_for why) call.0
       (refused_thread told (image p) scions finish (faults p) (faults q) v w m.values op why call.2) call.1
-      (refused_fits why op s.op next other) (λ over. subst IsEnded runs over)
+      (refused_fits told (image p) scions finish (faults p) (faults q) v w m.values op why s.op next other call.2)
+      (λ over. subst IsEnded runs over)
       (refused_waits told (image p) scions finish (faults p) (faults q) v w m.values op why call.2
       (runs_free script words m s works runs))
       (refused_asked told (image p) scions finish (faults p) (faults q) v w m.values op why call.2))

@@ -5,6 +5,7 @@ use Rattle.std.proofs.lemmas.Bool.{cases_lt}
 use Rattle.melt_model.specs.declared.config.Config.{Config}
 use Rattle.melt_model.specs.declared.history.Value.{Value}
 use Rattle.melt_model.specs.declared.operations.Op.{Op}
+use Rattle.melt_model.specs.declared.operations.Op.TheVariants as op
 use Rattle.melt_model.specs.declared.operations.Op.TheVariants.{Collect}
 use Rattle.melt_trace.specs.Script.{Script, operations}
 use Rattle.melt_record.specs.declared.damage.Damaged.{Damaged}
@@ -23,12 +24,41 @@ use Rattle.melt_rule.specs.Rule.{has_cause}
 use Rattle.melt_rule.specs.declared.view.View.{View}
 use Rattle.melt_epoch.specs.Fetching.{IsDamage}
 use Rattle.melt_safepoint.specs.Modes.{FitsMode, Waits, mode_for}
+use Rattle.melt_safepoint.specs.Needs.{CanLackRoom, IsLoad}
 use Rattle.melt_safepoint.specs.Run.{WasRead}
 use Rattle.melt_safepoint.specs.declared.thread.Mode.TheVariants as mode
-use Rattle.melt_pool.specs.Calling.{RefusedFor}
+use Rattle.melt_pool.specs.Calling.{NeedsIn, RefusedFor}
 use Rattle.melt_pool.specs.Programs.{EndsWell, one_going}
 use Rattle.melt_pool.proofs.Waiting.{forwarded_causes, spaced_causes}
 use Rattle.melt_pool.proofs.Working.{same_cause}
+
+-- an operation that wants words can lack room
+wants_room : (v w : View) (values : List Value) (o : Op) (need : ℕ) → NeedsIn v w values o need → CanLackRoom o
+wants_room v w values (op.New dst refs nums) need needs = tt
+wants_room v w values (op.Load dst src i) need needs = tt
+wants_room v w values (op.Store obj i src) need needs = absurd needs
+wants_room v w values (op.Get src j) need needs = absurd needs
+wants_room v w values (op.Put obj j x) need needs = absurd needs
+wants_room v w values (op.GLoad dst g) need needs = tt
+wants_room v w values (op.GStore g src) need needs = absurd needs
+wants_room v w values (op.Same a b) need needs = absurd needs
+wants_room v w values (op.Copy dst src) need needs = absurd needs
+wants_room v w values (op.Drop r) need needs = absurd needs
+wants_room v w values op.Collect need needs = absurd needs
+
+-- and so can a load
+load_lacks : (o : Op) → IsLoad o → CanLackRoom o
+load_lacks (op.New dst refs nums) loads = tt
+load_lacks (op.Load dst src i) loads = tt
+load_lacks (op.Store obj i src) loads = absurd loads
+load_lacks (op.Get src j) loads = absurd loads
+load_lacks (op.Put obj j x) loads = absurd loads
+load_lacks (op.GLoad dst g) loads = tt
+load_lacks (op.GStore g src) loads = absurd loads
+load_lacks (op.Same a b) loads = absurd loads
+load_lacks (op.Copy dst src) loads = absurd loads
+load_lacks (op.Drop r) loads = absurd loads
+load_lacks op.Collect loads = absurd loads
 
 module _ (told : Bool) (image : Option (List ℕ)) (scions : Scions) (end before after : ℕ) (v w : View)
     (values : List Value) (o : Op) where
@@ -36,7 +66,7 @@ module _ (told : Bool) (image : Option (List ℕ)) (scions : Scions) (end before
       → w.thread ≡ v.thread
   refused_thread (Pause Asked) because = because.0.thread
   refused_thread (Pause (Space need)) because = because.0.thread
-  refused_thread (Pause Forward) because = because.thread
+  refused_thread (Pause Forward) because = because.0.thread
   refused_thread refusal.DiskFault because = because.0.thread
   refused_thread (refusal.Damaged damaged) because = because.0.thread
 
@@ -56,7 +86,7 @@ module _ (told : Bool) (image : Option (List ℕ)) (scions : Scions) (end before
   refused_caused (Pause (Space need)) because waits =
       spaced_causes w.asked w.spaced w.forwarded because.0.spaced
   refused_caused (Pause Forward) because waits =
-      forwarded_causes w.asked w.spaced w.forwarded because.forwarded
+      forwarded_causes w.asked w.spaced w.forwarded because.0.forwarded
   refused_caused refusal.DiskFault because waits = absurd waits
   refused_caused (refusal.Damaged damaged) because waits = absurd waits
 
@@ -127,17 +157,21 @@ module _ (told : Bool) (image : Option (List ℕ)) (scions : Scions) (end before
     λ config within. was_read because.3.0 damaged config because.3.1 within because.3.2,
   )
 
--- what the mode after a refused call says of its operation
-fits_some : (why : Refusal) (o : Op) → o ≢ Collect → FitsMode (mode_for why) (Some o)
-fits_some (Pause Asked) o other = (refl, λ is. other (let same : Some o ≡ Some Collect = is in cc))
-fits_some (Pause (Space need)) o other = (refl, λ is. other (let same : Some o ≡ Some Collect = is in cc))
-fits_some (Pause Forward) o other = (refl, λ is. other (let same : Some o ≡ Some Collect = is in cc))
-fits_some refusal.DiskFault o other = tt
-fits_some (refusal.Damaged damaged) o other = tt
+  -- what the mode after it says of its operation
+  fits_some : (why : Refusal) → o ≢ Collect → RefusedFor told image scions end before after v w values o why
+      → FitsMode (mode_for why) (Some o)
+  fits_some (Pause Asked) other because =
+      (refl, λ is. other (let same : Some o ≡ Some Collect = is in cc), because.2)
+  fits_some (Pause (Space need)) other because =
+      (refl, λ is. other (let same : Some o ≡ Some Collect = is in cc), wants_room v w values o need because.1)
+  fits_some (Pause Forward) other because =
+      (refl, λ is. other (let same : Some o ≡ Some Collect = is in cc), load_lacks o because.1)
+  fits_some refusal.DiskFault other because = tt
+  fits_some (refusal.Damaged damaged) other because = tt
 
-pub refused_fits : (why : Refusal) (o : Op) (next : Option Op) → next ≡ Some o → o ≢ Collect
-    → FitsMode (mode_for why) next
-refused_fits why o next is other = subst (FitsMode (mode_for why)) (sym is) (fits_some why o other)
+  pub refused_fits : (why : Refusal) (next : Option Op) → next ≡ Some o → o ≢ Collect
+      → RefusedFor told image scions end before after v w values o why → FitsMode (mode_for why) next
+  refused_fits why next is other because = subst (FitsMode (mode_for why)) (sym is) (fits_some why other because)
 
 -- a thread whose call was refused makes no other
 pub refused_stops : (why : Refusal) → one_going (mode_for why) ≡ 0

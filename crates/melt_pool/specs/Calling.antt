@@ -24,7 +24,7 @@ use Rattle.melt_epoch.specs.Calls.{Replies}
 use Rattle.melt_epoch.specs.Fetching.{IsDamage}
 use Rattle.melt_epoch.specs.Loading.{HeldHas}
 use Rattle.melt_epoch.specs.declared.mutator.Mutator.{Mutator}
-use Rattle.melt_safepoint.specs.Needs.{IsLoad}
+use Rattle.melt_safepoint.specs.Needs.{IsLoad, StopsAtSafepoint}
 
 -- A seat of the same thread, with the causes to stop that it had, and as many commits that it won.
 pub record SameCauses (v w : View) : Type 0 where
@@ -63,10 +63,11 @@ NeedsIn v w values o need = ⊥
 
 -- why a call was refused
 abbrev pub RefusedFor : Bool → Option (List ℕ) → Scions → ℕ → ℕ → ℕ → View → View → List Value → Op → Refusal → Type 0
-RefusedFor told image scions end before after v w values o (Pause Asked) = SameCauses v w × (w.stopped ≡ true)
+RefusedFor told image scions end before after v w values o (Pause Asked) =
+    SameCauses v w × (w.stopped ≡ true) × StopsAtSafepoint o
 RefusedFor told image scions end before after v w values o (Pause (Space need)) =
     WasSpaced v w need × NeedsIn v w values o need
-RefusedFor told image scions end before after v w values o (Pause Forward) = WasForwarded v w
+RefusedFor told image scions end before after v w values o (Pause Forward) = WasForwarded v w × IsLoad o
 RefusedFor told image scions end before after v w values o refusal.DiskFault =
     SameCauses v w × IsLoad o × Rose before after
 RefusedFor told image scions end before after v w values o (refusal.Damaged damaged) =

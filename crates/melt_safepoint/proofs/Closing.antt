@@ -112,6 +112,7 @@ ended_all told script config shown run ended stands over ends =
       counts = subst (λ (js : List Journal). CountsCollections script config 0 states (length js)) (sym ends.journal)
           stands.counts;
       log = ends.left.log;
+      halts = λ some. absurd (let none : IsSome {T = Halt} None = subst IsSome ends.halt_is some in cc);
       cause = subst (λ (h : Option Halt). By h ended.left.heap) (sym ends.halt_is)
           (subst (By None) (sym ends.left.there) (over, ends.states, left.1, stands.under));
     }

@@ -19,14 +19,14 @@ use Rattle.melt_move.specs.declared.planned.Plan.{Plan}
 use Rattle.melt_core.specs.Views.{View}
 use Rattle.melt_core.proofs.Disks.{stands_untold}
 use Rattle.melt_safepoint.specs.declared.thread.ThreadState.{ThreadState}
-use Rattle.melt_safepoint.specs.Threads.{AreHalted}
+use Rattle.melt_safepoint.specs.Threads.{AreHalted, SomeGoesOn}
 use Rattle.melt_safepoint.specs.Journals.{next_of, before, end_of, IsTight, MayMove, IsJournalOf, OneMore, Planned}
 use Rattle.melt_safepoint.specs.Counts.{CountsCollections}
 use Rattle.melt_safepoint.specs.Made.{MakesWithin}
 use Rattle.melt_safepoint.specs.Shown.{Shown}
-use Rattle.melt_safepoint.specs.Endings.{HaveMoments}
+use Rattle.melt_safepoint.specs.Endings.{HaveMoments, RestMoments}
+use Rattle.melt_safepoint.proofs.AtSafepoint.{JustMade, made_now}
 use Rattle.melt_safepoint.proofs.Counting.{Spare, counts_made_more, counts_spare}
-use Rattle.melt_safepoint.proofs.InOrder.{moments_collected}
 use Rattle.melt_safepoint.proofs.Journals.{before_end, MayBe, journal_push, may_be, may_move, phase_cases, plan_for}
 use Rattle.melt_safepoint.proofs.Journals.{MayOwe}
 use Rattle.melt_safepoint.specs.Collections.{CollectsCore, CollectedOver, FullOver, Gathers, IsFullCore, IsRefusedCore}
@@ -34,7 +34,7 @@ use Rattle.melt_safepoint.specs.Collections.{MayCollect}
 use Rattle.melt_safepoint.specs.Ended.{EndsBy, EndsFull, EndedStands}
 use Rattle.melt_safepoint.specs.Collections.{NoneForwarded}
 use Rattle.melt_safepoint.specs.Rows.{CollectorStands, JustCollected, MakesCollection, RunStands, StandsBut, last_of}
-use Rattle.melt_safepoint.specs.Rows.{Row, journal_of}
+use Rattle.melt_safepoint.specs.Rows.{RestsSo, Row, journal_of}
 use Rattle.melt_safepoint.specs.Collections.{MadeSoFar}
 use Rattle.melt_safepoint.specs.Tables.{TableStands}
 use Rattle.melt_safepoint.specs.declared.collector.Collector.{Collector}
@@ -111,10 +111,10 @@ journal_count {old} collects =
 moments_more : {script : Script} {config : Config} {disk : OnDisk} {v : View} (w : View) {states : List ThreadState}
     (js : List Journal) {entry : Journal} {unpaid : ℕ} → TableStands true script config disk v states
     → Gathers v entry → CountsCollections script config unpaid states (length js) → w.log ≡ v.log
-    → HaveMoments script v.log states config js → HaveMoments script w.log states config (js ++ entry ∷ [])
-moments_more {script} {config} {disk} {v} w {states} js {entry} {unpaid} table gathers counts history have =
-    subst (λ (h : List Entry). HaveMoments script h states config (js ++ entry ∷ [])) (sym history)
-    (moments_collected js entry have (moment_now script config disk v states js entry table gathers)
+    → RestMoments script v.log states config js → JustMade script w.log states config (js ++ entry ∷ [])
+moments_more {script} {config} {disk} {v} w {states} js {entry} {unpaid} table gathers counts history rest =
+    subst (λ (h : List Entry). JustMade script h states config (js ++ entry ∷ [])) (sym history)
+    (made_now js entry table rest (moment_now script config disk v states js entry table gathers)
     (counts_now script config unpaid v.log states (length js) table.count counts))
 
 -- what a collection left, over the disk under a run
@@ -140,18 +140,18 @@ collected_table {unpaid} {told} {script} {config} {new} over =
     (Table_renewed over.0.table over.2.renewed)
 
 -- and so do the moments of the run, told as the view before it tells
-collected_moments : {unpaid : ℕ} (told : Bool) {script : Script} {config : Config} {force : Bool} {shown later : Shown}
-    {old new : Row} → told ≡ true → Over unpaid told script config force shown later old new
-    → HaveMoments script new.view.log new.states config new.collector.journal.items
-collected_moments {unpaid} true {script} {config} {old} {new} is over =
+pub collected_moments : {unpaid : ℕ} (told : Bool) {script : Script} {config : Config} {force : Bool}
+    {shown later : Shown} {old new : Row} → told ≡ true → Over unpaid told script config force shown later old new
+    → RestsSo told script config old → JustMade script new.view.log new.states config new.collector.journal.items
+collected_moments {unpaid} true {script} {config} {old} {new} is over rests =
     let w : View = new.view in
     let entry : Journal = over.1.collects.entry in
-    let more : HaveMoments script w.log old.states config (old.collector.journal.items ++ entry ∷ []) =
+    let more : JustMade script w.log old.states config (old.collector.journal.items ++ entry ∷ []) =
     moments_more w old.collector.journal.items over.0.table (over.2.gathers refl) over.0.counts over.2.renewed.history
-    (over.0.moments refl) in
-    subst (λ (xs : List ThreadState). HaveMoments script w.log xs config new.collector.journal.items) (sym over.1.states)
-    (subst (HaveMoments script w.log old.states config) (sym over.1.collects.journal) more)
-collected_moments {unpaid} false {script} {config} {old} {new} is over =
+    (rests refl) in
+    subst (λ (xs : List ThreadState). JustMade script w.log xs config new.collector.journal.items) (sym over.1.states)
+    (subst (JustMade script w.log old.states config) (sym over.1.collects.journal) more)
+collected_moments {unpaid} false {script} {config} {old} {new} is over rests =
     absurd (let wrong : false ≡ true = is in cc)
 
 -- one entry more
@@ -198,10 +198,11 @@ spare_collected {script} {config} {old} {new} stands made =
 -- a run stands after a collection, which is still to be paid for
 pub stands_collected : {unpaid : ℕ} {told : Bool} {script : Script} {config : Config} {force : Bool}
     {shown later : Shown} {old new : Row} → StandsBut unpaid told script config shown old
-    → MakesCollection force shown later old new → (force ≡ true → IsTight config (last_of old.collector))
-    → MayOwe unpaid old.states → StandsBut (suc unpaid) told script config later new
+    → RestsSo told script config old → MakesCollection force shown later old new
+    → (force ≡ true → IsTight config (last_of old.collector)) → MayOwe unpaid old.states
+    → StandsBut (suc unpaid) told script config later new
 unfolding collected_over
-stands_collected {unpaid} {told} {script} {config} {force} {shown} {later} {old} {new} stands made tight owes =
+stands_collected {unpaid} {told} {script} {config} {force} {shown} {later} {old} {new} stands rests made tight owes =
     let over : Over unpaid told script config force shown later old new =
     collected_over stands made in
     let n : ℕ = length new.collector.journal.items in
@@ -215,7 +216,7 @@ stands_collected {unpaid} {told} {script} {config} {force} {shown} {later} {old}
       every = made.every ∙ stands.every;
       told_is = made.told ∙ stands.told_is;
       collector = collector_more force stands.collector made.collects stands.table.words tight;
-      moments = λ is. collected_moments told is over;
+      moments = λ is. (collected_moments told is over rests).rest.have;
       made = λ is.
           subst (MadeSoFar config new.view) (sym over.1.collects.journal)
           (made_collected config old.view new.view old.collector.journal.items over.1.collects.entry
@@ -225,6 +226,13 @@ stands_collected {unpaid} {told} {script} {config} {force} {shown} {later} {old}
           (counts_made_more script config unpaid old.states (length old.collector.journal.items) n
           (journal_more made) owes.few owes.open_ stands.counts);
     }
+
+-- and it is at a safepoint, of which this was the last moment
+pub just_made : {unpaid : ℕ} {told : Bool} {script : Script} {config : Config} {force : Bool} {shown later : Shown}
+    {old new : Row} → StandsBut unpaid told script config shown old → RestsSo told script config old
+    → MakesCollection force shown later old new → told ≡ true
+    → JustMade script new.view.log new.states config new.collector.journal.items
+just_made {told} stands rests made tells = collected_moments told tells (collected_over stands made) rests
 
 -- it was just made, also after a thread that dropped its registers
 pub just_after : (force : Bool) (shown later : Shown) (old mid new : Row) → MakesCollection force shown later old mid
@@ -306,10 +314,10 @@ full_ends {config} force {shown} run {full} ended stands tight is over journal =
 -- what is left where the disk was full for a collection
 pub stands_full : {unpaid : ℕ} {told : Bool} {script : Script} {config : Config} (force : Bool) {shown later : Shown}
     {run : Row} {left : Left} {full : DiskFull} {ended : Ended} → StandsBut unpaid told script config shown run
-    → (force ≡ true → IsTight config (last_of run.collector))
+    → SomeGoesOn run.states → (force ≡ true → IsTight config (last_of run.collector))
     → IsFullCore (phase_done force run.collector.plan.next) shown later run.view left full
     → Halts run left (halt.DiskFull full.end full.need full.limit) ended → EndedStands told script config later ended
-stands_full {unpaid} {told} {script} {config} force {later} {run} {full} {ended} stands tight is halts =
+stands_full {unpaid} {told} {script} {config} force {later} {run} {full} {ended} stands some tight is halts =
     let v : View = run.view in
     let w : View = is.w in
     let states : List ThreadState = run.states in
@@ -331,15 +339,16 @@ stands_full {unpaid} {told} {script} {config} force {later} {run} {full} {ended}
       counts = subst (λ (js : List Journal). CountsCollections script config unpaid states (length js))
           (sym halts.journal) stands.counts;
       log = ap (λ (l : Left). l.history) halts.left_is ∙ is.log;
+      halts = λ cause. some;
       cause = ends_by told config later over.disk w halts is.there (halts.states, over.shows, over.under, ends);
     }
 
 -- what is left where the disk failed
 pub stands_failed : {unpaid : ℕ} {told : Bool} {script : Script} {config : Config} {shown : Shown} (later : Shown)
     {run : Row} {left : Left} {ended : Ended} → StandsBut unpaid told script config shown run
-    → (left.heap ≡ None) × (left.history ≡ run.view.log) → Halts run left halt.DiskFault ended
+    → SomeGoesOn run.states → (left.heap ≡ None) × (left.history ≡ run.view.log) → Halts run left halt.DiskFault ended
     → EndedStands told script config later ended
-stands_failed {unpaid} {told} {script} {config} later {run} stands is halts =
+stands_failed {unpaid} {told} {script} {config} later {run} stands some is halts =
     let v : View = run.view in
     let states : List ThreadState = run.states in
     record {
@@ -354,5 +363,6 @@ stands_failed {unpaid} {told} {script} {config} later {run} stands is halts =
       counts = subst (λ (js : List Journal). CountsCollections script config unpaid states (length js))
           (sym halts.journal) stands.counts;
       log = ap (λ (l : Left). l.history) halts.left_is ∙ is.1;
+      halts = λ cause. some;
       cause = ends_by told config later stands.disk v halts is.0 halts.states;
     }

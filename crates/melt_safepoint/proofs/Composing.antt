@@ -11,14 +11,16 @@ use Rattle.melt_safepoint.specs.Passing.{WaitsForRoom, CollectedAll, NoneOwn}
 use Rattle.melt_safepoint.specs.Shown.{Shown}
 use Rattle.melt_safepoint.specs.Losses.{CountsLosses}
 use Rattle.melt_safepoint.proofs.Counting.{counts_more, overs_less}
+use Rattle.melt_safepoint.proofs.AtSafepoint.{rests_all}
 use Rattle.melt_safepoint.proofs.Losses.{counts_then}
 use Rattle.melt_safepoint.proofs.Journals.{may_owe}
 use Rattle.melt_safepoint.specs.declared.ending.Stop.{Stop}
 use Rattle.melt_safepoint.specs.declared.ending.Stop.TheVariants.{NoMemory, Halted}
-use Rattle.melt_safepoint.specs.Rows.{AwaitsCall, JustCollected, KeepsRun, MakesCollection, MakesPlanned}
-use Rattle.melt_safepoint.specs.Rows.{Row, RunStands, StandsBut, StopCounts, StopsBut, StopsForced, StopsRun}
+use Rattle.melt_safepoint.specs.Rows.{AwaitsCall, JustCollected, KeepsRest, KeepsRun, MakesCollection, MakesPlanned}
+use Rattle.melt_safepoint.specs.Rows.{RestsSo, Row, RunRests, RunStands, StandsBut, StopCounts, StopsBut, StopsForced}
+use Rattle.melt_safepoint.specs.Rows.{StopsRest, StopsRun}
 use Rattle.melt_safepoint.specs.Makes.{if_none_was}
-use Rattle.melt_safepoint.proofs.Collected.{just_collected, planned_one, stands_collected}
+use Rattle.melt_safepoint.proofs.Collected.{just_collected, just_made, planned_one, stands_collected}
 use Rattle.melt_safepoint.proofs.MakingAgain.{owe_after}
 use Rattle.melt_safepoint.proofs.Safepoints.{none_own}
 
@@ -44,49 +46,76 @@ pub stops_then : (shown mid later : Shown) (old run : Row) (stop : Stop) → Kee
 stops_then shown mid later old run stop keeps stops told script config stands =
     stops told script config (keeps told script config stands)
 
+-- and so at a safepoint
+pub stops_there : (shown mid later : Shown) (old run : Row) (stop : Stop) → KeepsRest shown mid old run
+    → StopsRun mid later run stop → StopsRest shown later old stop
+stops_there shown mid later old run stop keeps stops told script config rests =
+    stops told script config (keeps told script config rests).0
+
 -- a collection that is not forced
-pub stops_planned : (shown later : Shown) (run : Row) (stop : Stop) → StopsForced false shown later run stop
-    → StopsRun shown later run stop
-stops_planned shown later run stop stops told script config stands =
-    stops told script config ((0, stands), λ is. absurd (let wrong : false ≡ true = is in cc))
+pub stops_planned : (shown later : Shown) (run : Row) (stop : Stop) → SomeGoesOn run.states
+    → StopsForced false shown later run stop → StopsRun shown later run stop
+stops_planned shown later run stop some stops told script config stands =
+    stops told script config ((0, stands), λ is. absurd (let wrong : false ≡ true = is in cc), some)
+
+-- a run at the beginning of a safepoint is at one
+pub begins_rest : {told : Bool} {script : Script} {config : Config} {shown : Shown} {run : Row} → AllWait run.states
+    → RunStands told script config shown run → RunRests told script config shown run
+begins_rest waits stands = (stands, λ tells. rests_all waits (stands.moments tells))
+
+-- one that was stopped after it
+pub stops_rest : (shown later : Shown) (run : Row) (stop : Stop) → AllWait run.states
+    → StopsRest shown later run stop → StopsRun shown later run stop
+stops_rest shown later run stop waits stops told script config stands =
+    stops told script config (begins_rest waits stands)
 
 -- and where nothing is unpaid
-pub stops_paid : (shown later : Shown) (run : Row) (stop : Stop) → StopsBut shown later run stop
-    → StopsRun shown later run stop
-stops_paid shown later run stop stops told script config stands = stops told script config (0, stands)
+pub stops_paid : (shown later : Shown) (run : Row) (stop : Stop) → SomeGoesOn run.states
+    → StopsBut shown later run stop → StopsRun shown later run stop
+stops_paid shown later run stop some stops told script config stands = stops told script config ((0, stands), some)
+
+-- a run at a safepoint, where so many collections are unpaid
+abbrev pub RestsBut : ℕ → Bool → Script → Config → Shown → Row → Type 0
+RestsBut unpaid told script config shown run =
+    StandsBut unpaid told script config shown run × RestsSo told script config run
 
 -- a run stands after a collection that was planned, which is still to be paid for
 planned_keeps : {shown later : Shown} {old new : Row} → MakesCollection false shown later old new
-    → SomeGoesOn old.states → (told : Bool) (script : Script) (config : Config) → RunStands told script config shown old
-    → StandsBut 1 told script config later new
-planned_keeps {old} made some told script config stands =
-    stands_collected stands made (λ is. absurd (let wrong : false ≡ true = is in cc))
-    (may_owe 0 old.states some.0 some.1.0 (omega arith) some.1.1 some.1.2)
+    → SomeGoesOn old.states → (told : Bool) (script : Script) (config : Config) → RunRests told script config shown old
+    → RestsBut 1 told script config later new
+planned_keeps {old} made some told script config (stands, rests) = (
+  stands_collected stands rests made (λ is. absurd (let wrong : false ≡ true = is in cc))
+      (may_owe 0 old.states some.0 some.1.0 (omega arith) some.1.1 some.1.2),
+  λ tells. (just_made stands rests made tells).rest,
+)
 
 -- and so where none was made
 same_keeps : (shown : Shown) (run : Row) → SomeGoesOn run.states → (told : Bool) (script : Script)
-    (config : Config) → RunStands told script config shown run → StandsBut 1 told script config shown run
-same_keeps shown run some told script config stands = record {
-  disk = stands.disk;
-  under = stands.under;
-  none_free = stands.none_free;
-  table = stands.table;
-  quiet = stands.quiet;
-  words = stands.words;
-  every = stands.every;
-  told_is = stands.told_is;
-  collector = stands.collector;
-  moments = stands.moments;
-  made = stands.made;
-  counts = counts_more script config run.states (length run.collector.journal.items)
-      (overs_less run.states some.0 some.1.0 some.1.1 some.1.2) stands.counts;
-}
+    (config : Config) → RunRests told script config shown run → RestsBut 1 told script config shown run
+same_keeps shown run some told script config (stands, rests) = (
+  record {
+    disk = stands.disk;
+    under = stands.under;
+    none_free = stands.none_free;
+    table = stands.table;
+    quiet = stands.quiet;
+    words = stands.words;
+    every = stands.every;
+    told_is = stands.told_is;
+    collector = stands.collector;
+    moments = stands.moments;
+    made = stands.made;
+    counts = counts_more script config run.states (length run.collector.journal.items)
+        (overs_less run.states some.0 some.1.0 some.1.1 some.1.2) stands.counts;
+  },
+  rests,
+)
 
 -- How a run stands before the call that is made first: after a collection, with the threads as all collections left
 -- them.
 pub record BeforeCall (due : ℕ) (shown later : Shown) (mid run : Row) : Type 0 where
-  pub keeps : (told : Bool) (script : Script) (config : Config) → RunStands told script config shown mid
-      → StandsBut 1 told script config later run
+  pub keeps : (told : Bool) (script : Script) (config : Config) → RunRests told script config shown mid
+      → RestsBut 1 told script config later run
   pub states : run.states ≡ mid.states
   pub just : JustCollected run
   pub planned : MakesPlanned (if_none_was due) shown mid run
@@ -103,8 +132,8 @@ before_made due shown later mid run none made some = record {
   keeps = planned_keeps made some;
   states = made.states;
   just = just_collected false shown later mid run made;
-  planned = subst (λ (n : ℕ). MakesPlanned (if_none_was n) shown mid run) (sym none) (λ told script config stands.
-      planned_one stands made);
+  planned = subst (λ (n : ℕ). MakesPlanned (if_none_was n) shown mid run) (sym none) (λ told script config rests.
+      planned_one rests.0 made);
 }
 
 -- or as there was one already
@@ -120,14 +149,15 @@ before_same due shown run was just some = record {
 
 -- a thread that lacks room may make its call then
 pub awaits_call : {due : ℕ} {shown mid_shown later : Shown} {old mid run : Row} (t : ℕ)
-    → KeepsRun shown mid_shown old mid → AllWait old.states → CollectedAll old.states mid.states
+    → KeepsRest shown mid_shown old mid → AllWait old.states → CollectedAll old.states mid.states
     → BeforeCall due mid_shown later mid run → WaitsForRoom mid.states t → (told : Bool) (script : Script)
-    (config : Config) → RunStands told script config shown old → AwaitsCall told script config later 0 run t
-awaits_call {old} {mid} t keeps waits all before lacks told script config stands = record {
-  stands = before.keeps told script config (keeps told script config stands);
+    (config : Config) → RunRests told script config shown old → AwaitsCall told script config later 0 run t
+awaits_call {old} {mid} t keeps waits all before lacks told script config rests = record {
+  stands = (before.keeps told script config (keeps told script config rests)).0;
+  safe = (before.keeps told script config (keeps told script config rests)).1;
   few = omega arith;
   owed = subst (OweAfterCollects script) (sym before.states)
-      (owe_after stands.table waits all);
+      (owe_after rests.0.table waits all);
   collected = before.just;
   own = subst NoneOwn (sym before.states) (none_own old.states mid.states all);
   waits = subst (λ (states : List ThreadState). WaitsForRoom states t) (sym before.states) lacks;

@@ -26,7 +26,9 @@ use Rattle.melt_safepoint.specs.Threads.{jobs_of, left, replies_of}
 use Rattle.melt_safepoint.proofs.ToDo.{to_do_set}
 use Rattle.melt_safepoint.proofs.Threads.{get_set_same, get_set_other}
 use Rattle.melt_safepoint.specs.Cuts.{LacksRoom}
+use Rattle.melt_safepoint.specs.Cuts.{IsSafepoint}
 use Rattle.melt_safepoint.specs.Endings.{HaveMoments, now}
+use Rattle.melt_safepoint.proofs.AtSafepoint.{safe_now}
 use Rattle.melt_safepoint.specs.Losses.{losses}
 use Rattle.melt_safepoint.specs.Modes.{lost, owes, ForCollection, jobs}
 use Rattle.melt_safepoint.specs.Passing.{IsLacking, NoneOwn}
@@ -77,6 +79,13 @@ gone_lacks true {old} {t} held {need} {s} was lacks no_room holds is =
 gone_lacks false {old} {t} held {need} {s} was lacks no_room holds is =
     absurd (let wrong : false ≡ true = is in cc)
 
+-- and at which moment
+gone_safe : (told : Bool) {script : Script} {config : Config} {shown : Shown} {forced : ℕ} {old : Row} {t need : ℕ}
+    → (lacks : LacksWords told script config shown forced old t need) → (tells : told ≡ true)
+    → IsSafepoint script config (lacks.safe tells).have.moments (now old.view.log old.states)
+gone_safe true lacks tells = safe_now lacks.stands.table (lacks.safe tells)
+gone_safe false lacks tells = absurd (let wrong : false ≡ true = tells in cc)
+
 -- so the run stands after it
 pub gone_stands : {told : Bool} {script : Script} {config : Config} {shown : Shown} {forced : ℕ} {old new : Row}
     {t held need : ℕ} → LacksWords told script config shown forced old t need
@@ -109,8 +118,9 @@ gone_stands {told} {script} {config} {shown} {forced} {old} {new} {t} {held} {ne
           (subst (λ (xs : List ThreadState). HaveMoments script new.view.log xs config old.collector.journal.items)
           (sym e.states)
           (subst (λ (h : List Entry). HaveMoments script h after config old.collector.journal.items) (sym history)
-          (moments_gone old.collector.journal.items t held need e.was.at (lacking_open e.was) (stands.moments tells)
+          (moments_gone old.collector.journal.items t held need e.was.at (lacking_open e.was) (lacks.safe tells).have
           (gone_lacks told held e.was lacks no_room e.holds tells)
+          (gone_safe told lacks tells)
           (counts_now script config (suc forced) old.view.log states (length old.collector.journal.items)
           stands.table.count stands.counts))));
       made = λ is.

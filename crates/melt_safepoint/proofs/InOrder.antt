@@ -21,7 +21,7 @@ use Rattle.melt_safepoint.specs.declared.thread.Mode.TheVariants.{Ended}
 use Rattle.melt_safepoint.specs.declared.thread.ThreadState.{ThreadState}
 use Rattle.melt_safepoint.specs.Asked.{collections}
 use Rattle.melt_safepoint.specs.Cuts.{AreMoments, CountsBy, Cut, IsAmong, IsCut, IsMoment, LacksRoom, Moment, NotAfter}
-use Rattle.melt_safepoint.specs.Cuts.{Occasion}
+use Rattle.melt_safepoint.specs.Cuts.{IsSafepoint, Occasion}
 use Rattle.melt_safepoint.specs.Cuts.{collection, collections_among, is_collection, no_room, open_by, replies_at}
 use Rattle.melt_safepoint.specs.Cuts.{replies_by}
 use Rattle.melt_safepoint.specs.Endings.{GoneIn, HaveMoments, gone_in, has_gone, now}
@@ -154,6 +154,7 @@ are_later {script} {log} more {states} {after} {config} {journal} {moments} late
   each = λ i m at. moment_later script log config journal (collections_among (take i moments)) m.cut more later
       (gone_then log states m.cut (past i m at)) m.of
       (λ t held_words need is. same t held_words need (i, (m, at, is))) (are.each i m at);
+  safe = are.safe;
   counts = λ i m at. counted_same script config (replies_of states) (replies_of after) m.cut
       (replies_later m.cut later (is_cut_of script log config journal (collections_among (take i moments)) m.cut
       (replies_of states) m.of (are.each i m at)).few) (are.counts i m at);
@@ -179,6 +180,14 @@ HaveMoments_later script log more {states} {after} config journal later room hav
       let x = have.real t held_words need among in
       (x.0, later.ended t x.0 x.1 (has_ended x.0.mode held_words need x.2), x.2);
 }
+
+-- they are the same ones
+pub same_moments : (script : Script) (log more : List Entry) {states after : List ThreadState} (config : Config)
+    (journal : List Journal) (later : Later states after) (room : NoneForRoom states after)
+    (have : HaveMoments script log states config journal)
+    → (HaveMoments_later script log more config journal later room have).moments ≡ have.moments
+unfolding HaveMoments_later
+same_moments script log more config journal later room have = refl
 
 -- ---- one moment more
 
@@ -210,12 +219,12 @@ pub moments_push : {script : Script} {log : List Entry} {replies : ℕ → List 
     → AreMoments script log replies config journal moments
     → ((k : ℕ) (e : Journal) → slice_get journal k ≡ Some e → slice_get later k ≡ Some e)
     → IsMoment script log replies config later (length journal) m.cut m.of
-    → CountsBy script config replies m.cut (length journal)
+    → IsSafepoint script config moments m.cut → CountsBy script config replies m.cut (length journal)
     → ((i : ℕ) (x : Moment) → slice_get moments i ≡ Some x → NotAfter x.cut m.cut)
     → ((t held_words need : ℕ) → IsAmong moments (no_room t held_words need) → m.cut.ended t ≡ true)
     → collections_among (moments ++ m ∷ []) ≡ length later
     → AreMoments script log replies config later (moments ++ m ∷ [])
-moments_push {script} {log} {replies} {config} journal later {moments} m are longer is counts past gone all =
+moments_push {script} {log} {replies} {config} journal later {moments} m are longer is safe counts past gone all =
     let before : (i : ℕ) → i < length moments
     → collections_among (take i moments) ≡ collections_among (take i (moments ++ m ∷ [])) =
     λ i below. ap collections_among (sym (take-append-le i moments (m ∷ []) (omega (arith, below)))) in
@@ -232,6 +241,13 @@ moments_push {script} {log} {replies} {config} journal later {moments} m are lon
         | inr new ↦ subst (λ (y : Moment). IsMoment script log replies config later
             (collections_among (take i (moments ++ m ∷ []))) y.cut y.of) new.1
             (subst (λ (k : ℕ). IsMoment script log replies config later k m.cut m.of) (here i new.0) is)
+      ];
+      safe = λ i x at. elim (push_cases moments m i x at) [
+        | inl old ↦ subst (λ (ms : List Moment). IsSafepoint script config ms x.cut)
+            (sym (take-append-le i moments (m ∷ []) (omega (arith, old.0)))) (are.safe i x old.1)
+        | inr new ↦ subst (λ (y : Moment). IsSafepoint script config (take i (moments ++ m ∷ [])) y.cut) new.1
+            (subst (λ (ms : List Moment). IsSafepoint script config ms m.cut)
+            (sym (ap (λ (k : ℕ). take k (moments ++ m ∷ [])) new.0 ∙ take-append_seam moments (m ∷ []))) safe)
       ];
       counts = λ i x at. elim (push_cases moments m i x at) [
         | inl old ↦ subst (λ (k : ℕ). CountsBy script config replies x.cut k) (before i old.0) (are.counts i x old.1)
@@ -277,6 +293,7 @@ no_moments script log states config none = record {
   moments = [];
   are = record {
     each = λ i m at. absurd (let wrong : slice_get [] i ≡ Some m = at in cc);
+    safe = λ i m at. absurd (let wrong : slice_get [] i ≡ Some m = at in cc);
     counts = λ i m at. absurd (let wrong : slice_get [] i ≡ Some m = at in cc);
     order = λ i j m n less at there. absurd (let wrong : slice_get [] i ≡ Some m = at in cc);
     gone = λ i j m n t held_words need less at of there. absurd (let wrong : slice_get [] i ≡ Some m = at in cc);
@@ -305,18 +322,19 @@ gone_already {states} have t held_words need among =
 
 -- a collection more
 pub moments_collected : {script : Script} {log : List Entry} {states : List ThreadState} {config : Config}
-    (journal : List Journal) (entry : Journal) → HaveMoments script log states config journal
+    (journal : List Journal) (entry : Journal) (have : HaveMoments script log states config journal)
     → IsMoment script log (replies_of states) config (journal ++ entry ∷ []) (length journal) (now log states) collection
+    → IsSafepoint script config have.moments (now log states)
     → CountsBy script config (replies_of states) (now log states) (length journal)
     → HaveMoments script log states config (journal ++ entry ∷ [])
-moments_collected {script} {log} {states} {config} journal entry have is counts =
+moments_collected {script} {log} {states} {config} journal entry have is safe counts =
     let m : Moment = record { cut = now log states; of = collection } in
     let all : collections_among (have.moments ++ m ∷ []) ≡ length (journal ++ entry ∷ []) =
     omega (arith, count_push have.moments m, have.are.all, length-append journal (entry ∷ [])) in
     record {
       moments = have.moments ++ m ∷ [];
       are = moments_push journal (journal ++ entry ∷ []) m have.are
-          (λ k e at. slice_get-append_left journal (entry ∷ []) k (slice_get_within journal k e at) ∙ at) is counts
+          (λ k e at. slice_get-append_left journal (entry ∷ []) k (slice_get_within journal k e at) ∙ at) is safe counts
           have.past (gone_already have) all;
       past = λ i x at. elim (push_cases have.moments m i x at) [
         | inl old ↦ have.past i x old.1
@@ -332,14 +350,26 @@ moments_collected {script} {log} {states} {config} journal entry have is counts 
           ];
     }
 
+-- it is the last of them
+pub last_moment : {script : Script} {log : List Entry} {states : List ThreadState} {config : Config}
+    (journal : List Journal) (entry : Journal) (have : HaveMoments script log states config journal)
+    (is : IsMoment script log (replies_of states) config (journal ++ entry ∷ []) (length journal) (now log states)
+    collection) (safe : IsSafepoint script config have.moments (now log states))
+    (counts : CountsBy script config (replies_of states) (now log states) (length journal))
+    → (moments_collected journal entry have is safe counts).moments
+    ≡ have.moments ++ record { cut = now log states; of = collection } ∷ []
+unfolding moments_collected
+last_moment journal entry have is safe counts = refl
+
 -- the end of a thread more, for want of room
 pub moments_gone : {script : Script} {log : List Entry} {states : List ThreadState} {config : Config}
     (journal : List Journal) (t held_words need : ℕ) {s : ThreadState} → slice_get states t ≡ Some s
-    → (IsEnded s.mode → ⊥) → HaveMoments script log states config journal
+    → (IsEnded s.mode → ⊥) → (have : HaveMoments script log states config journal)
     → LacksRoom script log (replies_of states) config (now log states) t held_words need
+    → IsSafepoint script config have.moments (now log states)
     → CountsBy script config (replies_of states) (now log states) (length journal)
     → HaveMoments script log (set states t (record s { mode = Ended (end.OutOfHeap held_words need) })) config journal
-moments_gone {script} {log} {states} {config} journal t held_words need {s} at goes have lacks counts =
+moments_gone {script} {log} {states} {config} journal t held_words need {s} at goes have lacks safe counts =
     let ended : ThreadState = record s { mode = Ended (end.OutOfHeap held_words need) } in
     let after : List ThreadState = set states t ended in
     let m : Moment = record { cut = now log states; of = no_room t held_words need } in
@@ -353,7 +383,7 @@ moments_gone {script} {log} {states} {config} journal t held_words need {s} at g
       | inr new ↦ subst (λ (y : Moment). NotAfter y.cut (now log states)) new.1 (now_now log states)
     ] in
     let are : AreMoments script log (replies_of states) config journal (have.moments ++ m ∷ []) =
-    moments_push journal journal m have.are (λ k e there. there) lacks counts have.past (gone_already have)
+    moments_push journal journal m have.are (λ k e there. there) lacks safe counts have.past (gone_already have)
     (omega (arith, count_push have.moments m, have.are.all)) in
     let replies : (u : ℕ) → replies_of after u ≡ replies_of states u = λ u. elim (cases_eq u t) [
       | inl same ↦ subst (λ (k : ℕ). replies_of after k ≡ replies_of states k) (sym same)

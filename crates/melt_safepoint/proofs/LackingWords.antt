@@ -19,6 +19,7 @@ use Rattle.melt_safepoint.specs.Shown.{Shown}
 use Rattle.melt_safepoint.specs.Threads.{OweAfterCollects}
 use Rattle.melt_safepoint.specs.declared.collector.Collector.{Collector}
 use Rattle.melt_safepoint.specs.declared.thread.ThreadState.{ThreadState}
+use Rattle.melt_safepoint.proofs.AtSafepoint.{safe_same}
 use Rattle.melt_safepoint.proofs.Cuts.{held_words_same, needs_same}
 use Rattle.melt_safepoint.proofs.Journals.{before_end}
 
@@ -72,6 +73,7 @@ lacks_words {told} {script} {config} {shown} {forced} {old} {new} {t} {need} awa
     let w : View = new.view in
     record {
       stands = stands;
+      safe = safe_same old new is.history is.states is.collector awaits.safe;
       few = awaits.few;
       owed = subst (OweAfterCollects script) (sym is.states) awaits.owed;
       own = subst NoneOwn (sym is.states) awaits.own;

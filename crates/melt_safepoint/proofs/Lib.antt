@@ -1,4 +1,5 @@
 pub mod Asked
+pub mod AtSafepoint
 pub mod Collected
 pub mod Collecting
 pub mod Collections
@@ -24,6 +25,7 @@ pub mod MovedSums
 pub mod Outcomes
 pub mod OwnCollections
 pub mod Passing
+pub mod PausedOps
 pub mod PlannedRest
 pub mod Refused
 pub mod Remaining

@@ -72,6 +72,7 @@ pub are_same : {script : Script} {log : List Entry} {a : ℕ → List Reply} (b 
 are_same {script} {log} {a} b {config} {journal} {moments} same are = record {
   each = λ i m at. moment_same script log config journal (collections_among (take i moments)) m.cut a b same m.of
       (are.each i m at);
+  safe = are.safe;
   counts = λ i m at. counted_same script config a b m.cut (λ t. ap (take (m.cut.replies t)) (same t))
       (are.counts i m at);
   order = are.order;

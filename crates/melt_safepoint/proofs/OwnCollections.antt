@@ -12,7 +12,7 @@ use Rattle.melt_safepoint.specs.Modes.{collections_for}
 use Rattle.melt_safepoint.proofs.Passing.{waits_for}
 use Rattle.melt_safepoint.proofs.ToDo.{collected_less}
 use Rattle.melt_safepoint.proofs.Safepoints.{own_one, planned_more, due_more, take_past, due_none}
-use Rattle.melt_safepoint.specs.Rows.{JustCollected, KeepsRun, MakesFor, MakesForAll, MakesPlanned, journal_of, Row}
+use Rattle.melt_safepoint.specs.Rows.{JustCollected, KeepsRest, MakesFor, MakesForAll, MakesPlanned, journal_of, Row}
 
 -- what was collected for the first threads
 pub record MadeBelow (shown : Shown) (old new : Row) (n : ℕ) : Type 0 where
@@ -25,12 +25,12 @@ pub below_none : (shown : Shown) (old : Row) → MadeBelow shown old old 0
 below_none shown old = record {
   made = λ some. absurd (some refl);
   none = λ nothing. refl;
-  planned = λ told script config stands. refl;
+  planned = λ told script config rests. refl;
 }
 
 -- for one thread more
 pub below_more : {shown mid : Shown} {old run next : Row} {n : ℕ} {s : ThreadState} → MadeBelow shown old run n
-    → slice_get old.states n ≡ Some s → KeepsRun shown mid old run → MakesFor s mid run next
+    → slice_get old.states n ≡ Some s → KeepsRest shown mid old run → MakesFor s mid run next
     → MadeBelow shown old next (n + 1)
 below_more {old} {run} {next} {n} {s} so_far at keeps makes =
     let m : ℕ = collections_due (take n old.states) in
@@ -48,12 +48,12 @@ below_more {old} {run} {next} {n} {s} so_far at keeps makes =
         | inl own ↦ absurd (omega (arith, sum, nothing, own.1))
         | inr not ↦ makes.none not.0 ∙ so_far.none (omega (arith, sum, nothing))
       ];
-      planned = λ told script config stands.
+      planned = λ told script config rests.
           subst (λ (j : ℕ). Planned config j (journal_of old) (journal_of next)) (sym sum)
           (planned_more config m k (journal_of old) (journal_of run) (journal_of next)
           (elim (own_one s.mode) [ inl own ↦ omega (arith, own.1) | inr not ↦ omega (arith, not.1) ])
-          (so_far.planned told script config stands)
-          (makes.planned told script config (keeps told script config stands)));
+          (so_far.planned told script config rests)
+          (makes.planned told script config (keeps told script config rests)));
     }
 
 -- for all threads

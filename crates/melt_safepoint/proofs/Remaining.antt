@@ -1,8 +1,8 @@
 -- What is left of a run: its report, and the heap over the disk.
-use Rattle.std.proofs.Common.{◌≡◌, ℕ, ◌≤◌, List, [], length, refl, sym, ◌∙◌, ap, subst, arith, inl, inr}
+use Rattle.std.proofs.Common.{◌≡◌, ℕ, ◌<◌, ◌≤◌, List, [], length, refl, sym, ◌∙◌, ap, subst, arith, inl, inr}
 use Rattle.std.proofs.Math.ListN.{length-map}
 use Rattle.std.proofs.lemmas.List.{get_or_past, take-append-drop}
-use Rattle.std.proofs.lemmas.Option.{slice_get_cases}
+use Rattle.std.proofs.lemmas.Option.{slice_get_cases, slice_get_within}
 use Rattle.std.specs.Prelude.{Bool, true, false, Option, None, Some, IsSome, map, slice_get, take, drop, ◌++◌}
 use Rattle.std.specs.Prelude.{if◌then◌else◌, Result, Ok, Err, IfOk}
 use Rattle.std.specs.Option.{option_map_or}
@@ -17,6 +17,7 @@ use Rattle.melt_model.specs.declared.reports.Halt.TheVariants as halt
 use Rattle.melt_model.specs.declared.reports.Journal.{Journal}
 use Rattle.melt_model.specs.declared.reports.Report.{Report}
 use Rattle.melt_model.specs.declared.reports.ThreadEnd.{ThreadEnd}
+use Rattle.melt_model.specs.declared.reports.ThreadEnd.TheVariants as end
 use Rattle.melt_model.specs.declared.reports.ThreadReport.{ThreadReport}
 use Rattle.melt_model.proofs.Transcripts.{registers_so_far, one_reply_each}
 use Rattle.melt_trace.specs.Script.{Script, operations}
@@ -38,18 +39,19 @@ use Rattle.melt_core.proofs.Values.{get_or_replicate}
 use Rattle.melt_safepoint.specs.declared.thread.ThreadState.{ThreadState}
 use Rattle.melt_safepoint.specs.declared.thread.Mode.{Mode}
 use Rattle.melt_safepoint.specs.declared.thread.Mode.TheVariants as mode
-use Rattle.melt_safepoint.specs.Threads.{AllEnded}
+use Rattle.melt_safepoint.specs.Threads.{AllEnded, AreHalted, SomeGoesOn, halted}
 use Rattle.melt_safepoint.specs.Journals.{MayMove, before, end_of}
 use Rattle.melt_safepoint.specs.Run.{answered, is_halted, lost_in, MayHalt, register_left, IsLeft, IsFull, HasLeft}
+use Rattle.melt_safepoint.specs.Run.{SomeHalted}
 use Rattle.melt_safepoint.specs.Run.{HasRun, CountsFaults}
 use Rattle.melt_safepoint.specs.Shown.{Shown, Underlies}
-use Rattle.melt_safepoint.specs.Modes.{IsEnded}
+use Rattle.melt_safepoint.specs.Modes.{IsEnded, halted_mode}
 use Rattle.melt_safepoint.specs.Endings.{EndsSo}
 use Rattle.melt_safepoint.specs.Losses.{losses}
 use Rattle.melt_safepoint.proofs.Cuts.{replies_here}
-use Rattle.melt_safepoint.proofs.Halting.{halted_ended}
+use Rattle.melt_safepoint.proofs.Halting.{halted_at, halted_ended}
 use Rattle.melt_safepoint.proofs.Reporting.{Reported}
-use Rattle.melt_safepoint.proofs.Outcomes.{state_at, EndsAs, not_halted}
+use Rattle.melt_safepoint.proofs.Outcomes.{state_at, EndsAs, halted_cases, not_halted, same_end}
 use Rattle.melt_safepoint.specs.declared.ending.Ended.{Ended}
 use Rattle.melt_safepoint.specs.declared.ending.Stop.TheVariants.{Halted}
 use Rattle.melt_safepoint.specs.Ended.{EndedStands, EndsBy, EndsFull}
@@ -192,6 +194,7 @@ left_full {script} {disk} {v} {report} {heap} {need} table shows reports history
     record {
       end_is = full.end_is;
       maps = maps v;
+      has = shows.has_maps;
       disk = disk;
       under = under;
       registers = v.held;
@@ -201,16 +204,37 @@ left_full {script} {disk} {v} {report} {heap} {need} table shows reports history
       needs = subst (λ (s : State). CountsWords s (WantsHome s) need) same (full.needs refl);
     }
 
+-- a thread that had not ended was halted
+some_halted : (states : List ThreadState) (ended : Ended) (report : Report) → AreHalted states ended.states.items
+    → Reported ended.states.items report.threads → SomeGoesOn states → SomeHalted report
+some_halted states ended report halts reported some =
+    let t : ℕ = some.0 in
+    let s : ThreadState = some.1.0 in
+    let there : slice_get ended.states.items t ≡ Some (halted s) =
+    halted_at states ended.states.items t s halts some.1.1 in
+    elim (slice_get_cases report.threads t).1 [
+      | inl w ↦
+          let so : halted_mode s.mode ≡ mode.Ended w.0.end = (reported.each t (halted s) w.0 there w.2).1 in
+          elim (halted_cases s.mode) [
+            | inl stays ↦ absurd (some.1.2 (subst IsEnded (sym (sym stays ∙ so)) tt))
+            | inr goes ↦ (t, (w.0, w.2, same_end w.0.end end.Halted (sym so ∙ goes.1)))
+          ]
+      | inr w ↦ absurd (
+          let below : t < length ended.states.items =
+          slice_get_within ended.states.items t (halted s) there in
+          omega (arith, below, w.0, reported.count))
+    ]
+
 -- why the run was halted
 may_halt : {told : Bool} {config : Config} {seen : Shown} {disk : OnDisk} {v : View} {ended : Ended} (report : Report)
     {finish need limit : ℕ} → report.journal ≡ ended.journal.items
-    → EndsFull told config seen disk v ended finish need limit
+    → EndsFull told config seen disk v ended finish need limit → SomeHalted report
     → MayHalt config report (Some (halt.DiskFull finish need limit))
-may_halt {config} {ended} report journal full =
+may_halt {config} {ended} report journal full some =
     let last : before ended.journal.items (length ended.journal.items)
     ≡ before report.journal (length report.journal) =
     ap (λ (js : List Journal). before js (length js)) (sym journal) in
-    (full.limit_is, full.above, full.end_last ∙ ap end_of last, subst (MayMove config) last full.may_move)
+    (full.limit_is, full.above, full.end_last ∙ ap end_of last, subst (MayMove config) last full.may_move, some)
 
 -- The parts of a report that are those of what was left.
 pub record ReportOf (ended : Ended) (report : Report) : Type 0 where
@@ -239,7 +263,8 @@ ran {told} {script} {config} {seen} {ended} {report} stands is (Some (halt.DiskF
     (subst IsSome (sym halts) refl) is.journal is.log in
     record {
       reported = step_report stands reports (subst (MayHalt config report) (sym halts)
-          (may_halt report is.journal cause.3));
+          (may_halt report is.journal cause.3 (some_halted stands.states ended report cause.0 is.threads
+          (stands.halts (subst IsSome (sym halts ∙ is.halt) refl)))));
       left = subst (λ (o : Option Halt). HasLeft told script config seen report o (Some heap)) (sym halts) (
         left_heap seen report stands.table cause.1 cause.2 (is.log ∙ stands.log),
         λ so. left_full (as_told told script config stands.disk stands.v stands.states so stands.table) cause.1 reports
@@ -252,7 +277,9 @@ ran {told} {script} {config} {seen} {ended} {report} stands is (Some halt.DiskFa
     reports_halted stands.states ended report cause is.threads
     (subst IsSome (sym halts) refl) is.journal is.log in
     record {
-      reported = step_report stands reports (subst (MayHalt config report) (sym halts) tt);
+      reported = step_report stands reports (subst (MayHalt config report) (sym halts)
+          (some_halted stands.states ended report cause is.threads
+          (stands.halts (subst IsSome (sym halts ∙ is.halt) refl))));
       left = subst (λ (o : Option Halt). HasLeft told script config seen report o None) (sym halts) tt;
     }
 ran {told} {script} {config} {seen} {ended} {report} stands is None None halts cause = absurd cause

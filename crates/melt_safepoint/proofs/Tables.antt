@@ -42,6 +42,7 @@ use Rattle.melt_safepoint.specs.Modes.{owes_silent, mode_for, MayGo, HadNoRoom, 
 use Rattle.melt_safepoint.specs.Endings.{EndsSo, HaveMoments}
 use Rattle.melt_safepoint.proofs.Cuts.{replies_here, first_left}
 use Rattle.melt_safepoint.proofs.InOrder.{HaveMoments_later, none_set}
+use Rattle.melt_safepoint.proofs.PausedOps.{paused_fits}
 use Rattle.melt_safepoint.proofs.Threads.{get_set_same, get_set_other, set_got, drop_next, take_next, replies_other}
 use Rattle.melt_safepoint.proofs.Threads.{replies_same, later_set, to_reply_set, to_reply_one}
 use Rattle.melt_safepoint.proofs.Modes.{ends_later, ends_open, paused_cases, lost_ends, ended_fits, refused_owes}
@@ -284,10 +285,10 @@ paused_view v w t o pause.Forward pauses = (pauses.call, pauses.own.history, pau
 -- a thread that waits for its call to be made again
 again_moves : {told : Bool} {script : Script} (config : Config) {v : View} (w : View) (states : List ThreadState)
     {t : ℕ} {s : ThreadState} (mode : Mode) → ThreadStands told script v t s → (IsEnded s.mode → ⊥)
-    → (mode ≡ Asked) ⊎ (mode ≡ Lacking) → IsSome s.op → s.op ≢ Some Collect
+    → (mode ≡ Asked) ⊎ (mode ≡ Lacking) → FitsMode mode s.op
     → (call_of w t ≡ None) × (w.log ≡ v.log) × (values_of w t ≡ values_of v t)
     → ThreadEvent told script config v w states t s (record s { mode = mode })
-again_moves {told} {script} config {v} w states {t} {s} mode st runs waits some no_collect beyond =
+again_moves {told} {script} config {v} w states {t} {s} mode st runs waits fits beyond =
     let waiting : IsEnded mode → ⊥ = λ over. elim waits [
       | inl asked ↦ subst IsEnded asked over
       | inr lacking ↦ subst IsEnded lacking over
@@ -296,10 +297,6 @@ again_moves {told} {script} config {v} w states {t} {s} mode st runs waits some 
       | inl asked ↦ let wrong : false ≡ true = sym (ap owes_silent asked) ∙ is in cc
       | inr lacking ↦ let wrong : false ≡ true = sym (ap owes_silent lacking) ∙ is in cc
     ]) in
-    let fits : FitsMode mode s.op = elim waits [
-      | inl asked ↦ subst (λ (m : Mode). FitsMode m s.op) (sym asked) (some, no_collect)
-      | inr lacking ↦ subst (λ (m : Mode). FitsMode m s.op) (sym lacking) (some, no_collect)
-    ] in
     let stands : ThreadStands told script w t (record s { mode = mode }) =
     mode_stands w mode st runs waiting beyond.1 beyond.2 fits
     (λ c is. absurd (let none : call_of w t ≡ None = beyond.0 in cc)) in
@@ -307,12 +304,19 @@ again_moves {told} {script} config {v} w states {t} {s} mode st runs waits some 
 
 -- a thread whose call was refused
 refused_moves : {told : Bool} {script : Script} (config : Config) {v w : View} (states : List ThreadState) {t : ℕ}
-    {s after : ThreadState} → ThreadStands told script v t s → (IsEnded s.mode → ⊥) → ThreadRefused v w t s after
-    → ThreadEvent told script config v w states t s after
-refused_moves {told} {script} config {v} {w} states {t} {s} st runs refused =
+    {s after : ThreadState} → {disk : OnDisk} → Standing told disk v → ThreadStands told script v t s
+    → (IsEnded s.mode → ⊥) → ThreadRefused v w t s after → ThreadEvent told script config v w states t s after
+refused_moves {told} {script} config {v} {w} states {t} {s} stands st runs refused =
+    let mode : Mode = mode_for (refusal.Pause refused.cause) in
+    let same : (c : Call) → call_of v t ≡ Some c → c.op ≡ refused.op = λ c is.
+    let of : s.op ≡ Some c.op = (st.call c is).1 in
+    same_Some c.op refused.op (sym of ∙ refused.next) in
+    let fits : FitsMode mode (Some refused.op) =
+    paused_fits v w t refused.op refused.cause refused.no_collect (λ c is. (stands.fits t c is, same c is)) refused.pauses
+    in
     subst (λ (y : ThreadState). ThreadEvent told script config v w states t s y) (sym refused.only)
-    (again_moves config w states (mode_for (refusal.Pause refused.cause)) st runs (paused_cases refused.cause)
-    (rw refused.next refl) (λ is. refused.no_collect (same_Some refused.op Collect (sym refused.next ∙ is)))
+    (again_moves config w states mode st runs (paused_cases refused.cause)
+    (subst (FitsMode mode) (sym refused.next) fits)
     (paused_view v w t refused.op refused.cause refused.pauses))
 
 -- a thread that still lacks room stands as before
@@ -328,7 +332,7 @@ Table_lacks {told} {script} {config} {disk} {v} {w} {states} {t} {s} table at la
     let same : record s { mode = Lacking } ≡ s =
     ap {B = ThreadState} (λ (m : Mode). record s { mode = m }) (sym lacking) in
     let moves : ThreadEvent told script config v w states t s (record s { mode = Lacking }) =
-    again_moves config w states Lacking st runs (inr refl) fits.0 fits.1 beyond in
+    again_moves config w states Lacking st runs (inr refl) fits beyond in
     subst (TableStands told script config disk w) (set_got states t s at)
     (subst (λ (y : ThreadState). TableStands told script config disk w (set states t y)) same
     (Table_moves table at runs stands others moves))
@@ -509,7 +513,7 @@ step_moves {told} {script} {config} {v} {states} {t} {s} within table at runs st
       | inr rest ↦ elim rest [
         | inl goes ↦ goes_moves config states (table.due t s at) st runs goes
         | inr further ↦ elim further [
-          | inl refused ↦ refused_moves config states st runs refused
+          | inl refused ↦ refused_moves config states table.stands st runs refused
           | inr last ↦ elim last [
             | inl lost ↦ lost_moves config states within st at lost
             | inr got ↦ told_moves due table at runs step.stands step.others.globals got

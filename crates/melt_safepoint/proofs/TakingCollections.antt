@@ -24,20 +24,22 @@ use Rattle.melt_safepoint.specs.Journals.{IsTight, Planned}
 use Rattle.melt_safepoint.specs.Shown.{Shown}
 use Rattle.melt_safepoint.specs.Threads.{DueBy, RunsOrEnds, TakesReply, with_first}
 use Rattle.melt_safepoint.specs.Modes.{FitsMode, ForCollection, IsEnded, MayGo, owes, owes_silent}
-use Rattle.melt_safepoint.specs.Endings.{HaveMoments}
+use Rattle.melt_safepoint.specs.Endings.{HaveMoments, RestMoments}
+use Rattle.melt_safepoint.proofs.AtSafepoint.{JustMade, rests_replied, rests_silent}
 use Rattle.melt_safepoint.proofs.Counting.{Adds, Spare, adds_silent, counts_taken, open_over}
 use Rattle.melt_safepoint.proofs.Journals.{may_owe}
 use Rattle.melt_safepoint.proofs.Modes.{moments_mode}
+use Rattle.melt_safepoint.proofs.Moments.{next_op}
 use Rattle.melt_safepoint.proofs.Collections.{moments_reply, goes_on_mode, TakesCollection, waits_cases, own_open, own_one}
 use Rattle.melt_safepoint.proofs.Collections.{own_none}
 use Rattle.melt_safepoint.specs.declared.collector.Collector.{Collector}
-use Rattle.melt_safepoint.specs.Rows.{CollectorStands, KeepsRun, MakesCollection, MakesFor, RunStands, StandsBut, Row}
+use Rattle.melt_safepoint.specs.Rows.{CollectorStands, KeepsRest, MakesCollection, MakesFor, RunStands, StandsBut, Row}
 use Rattle.melt_safepoint.specs.Rows.{MakesPlanned, journal_of, last_of}
 use Rattle.melt_safepoint.specs.Collections.{MadeSoFar}
 use Rattle.melt_safepoint.specs.Tables.{DropsIfEnded, TableStands, ThreadStep, ThreadTold}
 use Rattle.melt_safepoint.proofs.TableCounts.{adds_told}
 use Rattle.melt_safepoint.proofs.Collected.{collected_over, collected_table, just_after, spare_collected, planned_one}
-use Rattle.melt_safepoint.proofs.Collected.{stands_collected}
+use Rattle.melt_safepoint.proofs.Collected.{just_made, stands_collected}
 use Rattle.melt_safepoint.proofs.TableModes.{Table_gone, Table_runs, dropped_keeps, ends_done, nothing_keeps}
 use Rattle.melt_safepoint.proofs.TableModes.{drop_cases}
 use Rattle.melt_safepoint.proofs.Tables.{Table_step, Table_untold, table_ready, told_room}
@@ -247,6 +249,31 @@ Run_taken {s} stands spare at waits takes drops sets =
       | inr own ↦ Run_answered stands spare at own (takes.takes own) (takes.due own) drops sets
     ]
 
+-- and it is at a safepoint still: the thread has had its own collection
+rests_taken : {told : Bool} {script : Script} {config : Config} {shown : Shown} {mid new : Row} {t : ℕ}
+    {s after : ThreadState} → StandsBut 1 told script config shown mid → slice_get mid.states t ≡ Some s
+    → ForCollection s.mode → TakesCollection mid.every s after → SetsState mid new t after
+    → JustMade script mid.view.log mid.states config mid.collector.journal.items
+    → RestMoments script new.view.log new.states config new.collector.journal.items
+rests_taken {script} {config} {mid} {new} {t} {s} {after} stands at waits takes sets made =
+    let journal : List Journal = mid.collector.journal.items in
+    let rest : RestMoments script mid.view.log (set mid.states t after) config journal =
+    elim (waits_cases s.mode waits) [
+      | inl silent ↦
+          let by = goes_on_mode s after (takes.silent silent) in
+          subst (λ (x : ThreadState). RestMoments script mid.view.log (set mid.states t x) config journal) (sym by.1)
+          (rests_silent mid.view.log t by.0 journal at (λ over. subst IsEnded silent over) by.4
+          (stands.table.due t s at (ap owes_silent silent)) made.rest)
+      | inr own ↦
+          let asked : s.op ≡ Some Collect = collecting_op t stands at own in
+          rests_replied mid.view.log t after reply.Done journal at (λ over. subst IsEnded own over) (takes.takes own).replies
+          (told_room (takes.takes own)) (next_op t stands.table at asked) made
+    ] in
+    subst (λ (c : Collector). RestMoments script new.view.log new.states config c.journal.items) (sym sets.collector)
+    (subst (λ (xs : List ThreadState). RestMoments script new.view.log xs config journal) (sym sets.states)
+    (subst (λ (h : List Entry). RestMoments script h (set mid.states t after) config journal) (sym sets.epoch.log)
+    rest))
+
 -- the state that was read is that of the thread
 pub state_read : (states items : List ThreadState) (t : ℕ) (s x d : ThreadState) → slice_get states t ≡ Some s
     → items ≡ states → x ≡ get_or items t d → x ≡ s
@@ -280,13 +307,16 @@ never_forced config c is = absurd (cc)
 -- what stands before a planned collection stands where the thread goes on after it
 pub keeps_taken : {shown later : Shown} {old mid new : Row} {t : ℕ} {s after : ThreadState}
     → MakesCollection false shown later old mid → WasCollected old mid t s after
-    → DropsIfEnded mid.view new.view t after.mode → SetsState mid new t after → KeepsRun shown later old new
-keeps_taken {old} {mid} {t} {s} made was drops sets = λ told script config stands.
+    → DropsIfEnded mid.view new.view t after.mode → SetsState mid new t after → KeepsRest shown later old new
+keeps_taken {old} {mid} {new} {t} {s} {after} made was drops sets told script config (stands, rests) =
     let here : slice_get mid.states t ≡ Some s =
     ap (λ (xs : List ThreadState). slice_get xs t) made.states ∙ was.at in
-    Run_taken (stands_collected stands made (never_forced config old.collector)
-    (may_owe 0 old.states t s (omega arith) was.at (own_open s.mode was.waits))) (spare_collected stands made) here
-    was.waits was.takes drops sets
+    let stood : StandsBut 1 told script config _ mid =
+    stands_collected stands rests made (never_forced config old.collector)
+    (may_owe 0 old.states t s (omega arith) was.at (own_open s.mode was.waits)) in (
+      Run_taken stood (spare_collected stands made) here was.waits was.takes drops sets,
+      λ tells. rests_taken stood here was.waits was.takes sets (just_made stands rests made tells),
+    )
 
 -- the threads of a run have registers after a collection
 pub collected_thread : {told : Bool} {script : Script} {config : Config} {shown later : Shown} {old mid : Row} (t : ℕ)
@@ -304,9 +334,9 @@ pub made_for : (shown later : Shown) (old mid new : Row) (s : ThreadState) → M
 made_for shown later old mid new s made waits collector same = record {
   made = λ for. just_after false shown later old mid new made collector same.free same.forward;
   none = λ never. absurd (never waits);
-  planned = subst (λ (n : ℕ). MakesPlanned n shown old new) (sym (own_one s.mode waits)) (λ told script config stands.
+  planned = subst (λ (n : ℕ). MakesPlanned n shown old new) (sym (own_one s.mode waits)) (λ told script config rests.
       subst (λ (c : Collector). Planned config 1 (journal_of old) c.journal.items) (sym collector)
-      (planned_one stands made));
+      (planned_one rests.0 made));
 }
 
 -- and none for another

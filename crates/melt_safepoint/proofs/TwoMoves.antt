@@ -17,7 +17,7 @@ use Rattle.melt_safepoint.specs.Passing.{WaitsForRoom, NoneOwn}
 use Rattle.melt_safepoint.specs.Shown.{Shown}
 use Rattle.melt_safepoint.specs.Threads.{OweAfterCollects}
 use Rattle.melt_safepoint.proofs.Cuts.{held_words_same}
-use Rattle.melt_safepoint.proofs.Lacking.{room_owes}
+use Rattle.melt_safepoint.proofs.Lacking.{room_goes, room_owes}
 use Rattle.melt_safepoint.specs.Collections.{CollectedOver, Gathers}
 use Rattle.melt_safepoint.specs.Rows.{AwaitsCall, LacksBy, LacksWords, LeftBy, Row}
 use Rattle.melt_safepoint.specs.Makes.{MovesAfter, MovesOnce}
@@ -25,7 +25,7 @@ use Rattle.std.specs.Prelude.{Some}
 use Rattle.melt_safepoint.specs.Rows.{MakesCollection, NoRoom, StandsBut}
 use Rattle.melt_safepoint.specs.Rows.{StopsBut, StopsFrom}
 use Rattle.melt_safepoint.specs.declared.ending.Stop.{Stop}
-use Rattle.melt_safepoint.proofs.Collected.{just_collected, stands_collected}
+use Rattle.melt_safepoint.proofs.Collected.{just_collected, just_made, stands_collected}
 
 -- what one more forced Move leaves, by what its collection did
 left_again : {spare : List ℕ} {told : Bool} (config : Config) (forced : ℕ) {later : Shown} {v w : View}
@@ -53,8 +53,9 @@ awaits_again {told} {script} {config} {shown} {later} {forced} {old} {new} {t} {
     let over : CollectedOver told Move later stands.disk.free_homes old.view new.view made.collects.entry =
     made.collects.each told stands.disk stands.under stands.table.stands in
     record {
-      stands = stands_collected stands made (λ is. lacks.tight)
+      stands = stands_collected stands lacks.safe made (λ is. lacks.tight)
           (room_owes old.states t lacks.waits (omega (arith, few)));
+      safe = λ tells. (just_made stands lacks.safe made tells).rest;
       few = omega (arith, few);
       owed = subst (OweAfterCollects script) (sym made.states) lacks.owed;
       collected = just_collected true shown later old new made;
@@ -115,12 +116,14 @@ pub forced_stops : {shown mid : Shown} (later : Shown) {old run : Row} (t need f
     → MakesCollection true shown mid old run → forced < 2 → StopsBut mid later run stop
     → StopsFrom (λ told script config. LacksWords told script config shown forced old t need) later stop
 forced_stops later t need forced stop made few stops told script config lacks =
-    stops told script config (suc (suc forced), (awaits_again few lacks made).stands)
+    let awaits = awaits_again few lacks made in
+    stops told script config ((suc (suc forced), awaits.stands), room_goes _ t awaits.waits)
 
 -- a run that was stopped before the call was made
 pub stops_first : (shown later : Shown) (run : Row) (t : ℕ) (stop : Stop) → StopsBut shown later run stop
     → StopsFrom (λ told script config. AwaitsCall told script config shown 0 run t) later stop
-stops_first shown later run t stop stops told script config awaits = stops told script config (1, awaits.stands)
+stops_first shown later run t stop stops told script config awaits =
+    stops told script config ((1, awaits.stands), room_goes run.states t awaits.waits)
 
 -- What a run came to after so many Moves is told as what the one before them came to.
 abbrev pub Moved : Bool → Script → Config → (forced : ℕ) → (first run : Row) → (t need more : ℕ) → Type 0

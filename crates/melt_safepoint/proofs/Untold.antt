@@ -102,6 +102,7 @@ ended_untold {told} {script} {config} {shown} {ended} stands = record {
   unpaid = stands.unpaid;
   counts = stands.counts;
   log = stands.log;
+  halts = stands.halts;
   cause = by_untold ended.halt ended.left.heap stands.cause;
 }
   where

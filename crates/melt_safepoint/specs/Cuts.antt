@@ -15,7 +15,7 @@ use Rattle.melt_model.specs.declared.operations.Reply.{Reply}
 use Rattle.melt_model.specs.declared.reports.Journal.{Journal}
 use Rattle.melt_trace.specs.Script.{Script, operations}
 use Rattle.melt_safepoint.specs.Asked.{collects, collections, total}
-use Rattle.melt_safepoint.specs.Needs.{NeedsWords}
+use Rattle.melt_safepoint.specs.Needs.{NeedsWords, StopsAtSafepoint}
 
 -- A moment of a run: how many entries the history had then, how many replies each thread had got, and which threads
 -- had ended.
@@ -146,6 +146,29 @@ pub record CountsBy (script : Script) (config : Config) (replies : ℕ → List 
   pub bounded : made ≤ collections script config (replies_at replies cut) (length script.programs)
       + 3 * (replies_by cut (length script.programs) + length script.programs)
 
+-- A thread waits at the moment: a silent collection is due after its last reply, or its next operation stops at a
+-- safepoint.
+abbrev pub WaitsAt : Script → Config → Cut → ℕ → Type 0
+WaitsAt script config cut t = IsDue config (cut.replies t)
+    ⊎ ((op : Op) × (slice_get (operations script t) (cut.replies t) ≡ Some op) × StopsAtSafepoint op)
+
+-- Its last reply is that to a `collect`, and the moment of that collection, which is among these, has the history of
+-- this one.
+pub record HadOwn (script : Script) (moments : List Moment) (cut : Cut) (t : ℕ) : Type 0 where
+  pub own : Moment
+  pub place : ℕ
+  pub among : slice_get moments place ≡ Some own
+  pub collected : own.of ≡ collection
+  pub asked : slice_get (operations script t) (own.cut.replies t) ≡ Some Collect
+  pub replies : cut.replies t ≡ suc (own.cut.replies t)
+  pub entries : cut.entries ≡ own.cut.entries
+
+-- The moment is a safepoint: each thread that has not ended waits, or has just had its own collection, after which
+-- nothing but collections was done.
+abbrev pub IsSafepoint : Script → Config → (earlier : List Moment) → Cut → Type 0
+IsSafepoint script config earlier cut = (t : ℕ) → cut.ended t ≡ false
+    → WaitsAt script config cut t ⊎ HadOwn script earlier cut t
+
 -- What is said of a moment, by what happened there, where so many collections had been made before it.
 abbrev pub IsMoment : Script → List Entry → (ℕ → List Reply) → Config → List Journal → ℕ → Cut → Occasion → Type 0
 IsMoment script log replies config journal made cut collection = IsCut script log replies config cut
@@ -158,11 +181,13 @@ abbrev pub IsAmong : List Moment → Occasion → Type 0
 IsAmong moments of = (i : ℕ) × ((m : Moment) × (slice_get moments i ≡ Some m) × (m.of ≡ of))
 
 -- The moments of a run, in its order: that of each collection, one after the other, and those at which threads ended
--- for want of room. At all later ones such a thread has ended.
+-- for want of room. Each is a safepoint. At all later ones such a thread has ended.
 pub record AreMoments (script : Script) (log : List Entry) (replies : ℕ → List Reply) (config : Config)
     (journal : List Journal) (moments : List Moment) : Type 0 where
   pub each : (i : ℕ) (m : Moment) → slice_get moments i ≡ Some m
       → IsMoment script log replies config journal (collections_among (take i moments)) m.cut m.of
+  pub safe : (i : ℕ) (m : Moment) → slice_get moments i ≡ Some m
+      → IsSafepoint script config (take i moments) m.cut
   pub counts : (i : ℕ) (m : Moment) → slice_get moments i ≡ Some m
       → CountsBy script config replies m.cut (collections_among (take i moments))
   pub order : (i j : ℕ) (m n : Moment) → i < j → slice_get moments i ≡ Some m → slice_get moments j ≡ Some n

@@ -1,5 +1,5 @@
 -- What is left of a run that has ended, or was halted.
-use Rattle.std.specs.Prelude.{◌≡◌, ℕ, ◌+◌, ◌<◌, Bool, true, List, length, Option, None, Some, false}
+use Rattle.std.specs.Prelude.{◌≡◌, ℕ, ◌+◌, ◌<◌, Bool, true, List, length, Option, None, Some, IsSome, false}
 use Rattle.melt_model.specs.declared.config.Config.{Config}
 use Rattle.melt_model.specs.declared.reports.Halt.{Halt}
 use Rattle.melt_model.specs.declared.reports.Halt.TheVariants as halt
@@ -17,7 +17,7 @@ use Rattle.melt_safepoint.specs.Made.{MakesWithin}
 use Rattle.melt_safepoint.specs.Shown.{Shown, Underlies}
 use Rattle.melt_safepoint.specs.Endings.{HaveMoments}
 use Rattle.melt_safepoint.specs.Tables.{TableStands}
-use Rattle.melt_safepoint.specs.Threads.{AreHalted, AllEnded}
+use Rattle.melt_safepoint.specs.Threads.{AreHalted, AllEnded, SomeGoesOn}
 use Rattle.melt_safepoint.specs.declared.ending.Ended.{Ended}
 use Rattle.melt_safepoint.specs.declared.ending.Stop.{Stop}
 use Rattle.melt_safepoint.specs.declared.ending.Stop.TheVariants.{NoMemory, Halted}
@@ -59,6 +59,7 @@ pub record EndedStands (told : Bool) (script : Script) (config : Config) (shown 
   pub unpaid : ℕ
   pub counts : CountsCollections script config unpaid states (length ended.journal.items)
   pub log : ended.left.history ≡ v.log
+  pub halts : IsSome ended.halt → SomeGoesOn states
   pub cause : EndsBy told config shown disk v states ended ended.halt ended.left.heap
 
 abbrev pub SomeEnded : Shown → Ended → Type 0

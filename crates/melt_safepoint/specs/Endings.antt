@@ -1,5 +1,5 @@
 -- Why the threads of a run have ended, while it goes on, and at which moments its collections were made.
-use Rattle.std.specs.Prelude.{◌≡◌, ℕ, zero, suc, ◌≤◌, Bool, true, false, List, [], ◌∷◌, length, slice_get, Some}
+use Rattle.std.specs.Prelude.{◌≡◌, ℕ, zero, suc, ◌≤◌, Bool, true, false, List, [], ◌∷◌, length, slice_get, Some, ◌⊎◌}
 use Rattle.melt_model.specs.declared.config.Config.{Config}
 use Rattle.melt_model.specs.declared.history.Entry.{Entry}
 use Rattle.melt_model.specs.declared.reports.Journal.{Journal}
@@ -11,9 +11,9 @@ use Rattle.melt_core.specs.declared.answer.Refusal.TheVariants as refusal
 use Rattle.melt_safepoint.specs.declared.thread.Mode.{Mode}
 use Rattle.melt_safepoint.specs.declared.thread.Mode.TheVariants.{Ended}
 use Rattle.melt_safepoint.specs.declared.thread.ThreadState.{ThreadState}
-use Rattle.melt_safepoint.specs.Cuts.{Occasion, AreMoments, Cut, IsAmong, Moment, NotAfter}
+use Rattle.melt_safepoint.specs.Cuts.{Occasion, AreMoments, Cut, HadOwn, IsAmong, IsDue, Moment, NotAfter}
 use Rattle.melt_safepoint.specs.Run.{LoadsNext, WasRead}
-use Rattle.melt_safepoint.specs.Modes.{IsEnded}
+use Rattle.melt_safepoint.specs.Modes.{IsEnded, MayGo}
 use Rattle.melt_safepoint.specs.Threads.{replies_of}
 
 -- whether a thread has ended; and so of one of the run, where those that it lacks have
@@ -45,6 +45,13 @@ pub record HaveMoments (script : Script) (log : List Entry) (states : List Threa
       → s.mode ≡ Ended (end.OutOfHeap held_words need) → IsAmong moments (Occasion.no_room t held_words need)
   pub real : (t held_words need : ℕ) → IsAmong moments (Occasion.no_room t held_words need)
       → (s : ThreadState) × (slice_get states t ≡ Some s) × (s.mode ≡ Ended (end.OutOfHeap held_words need))
+
+-- The same at a safepoint: a thread that may go on has just had a collection of its own, silent or asked for.
+pub record RestMoments (script : Script) (log : List Entry) (states : List ThreadState) (config : Config)
+    (journal : List Journal) : Type 0 where
+  pub have : HaveMoments script log states config journal
+  pub own : (t : ℕ) (s : ThreadState) → slice_get states t ≡ Some s → MayGo s.mode
+      → IsDue config (length s.replies.items) ⊎ HadOwn script have.moments (now log states) t
 
 -- Why a thread may have ended. For one that had no room the moments of the run tell.
 abbrev pub EndsSo : Bool → Script → List Entry → List ThreadState → Config → ℕ → Mode → Type 0

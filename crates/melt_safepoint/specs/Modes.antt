@@ -1,5 +1,5 @@
 -- What a thread does next, or waits for.
-use Rattle.std.specs.Prelude.{◌≡◌, ◌≢◌, ℕ, ◌+◌, ◌*◌, Bool, true, false, if◌then◌else◌, Option, None, Some, IsSome}
+use Rattle.std.specs.Prelude.{◌≡◌, ◌≢◌, ℕ, ◌+◌, ◌*◌, Bool, true, false, if◌then◌else◌, Option, None, Some, IfSome, IsSome}
 use Rattle.melt_model.specs.declared.operations.Op.{Op}
 use Rattle.melt_model.specs.declared.operations.Op.TheVariants.{Collect}
 use Rattle.melt_model.specs.declared.reports.ThreadEnd.TheVariants as end
@@ -9,6 +9,7 @@ use Rattle.melt_core.specs.declared.answer.Refusal.TheVariants as refusal
 use Rattle.melt_safepoint.specs.declared.thread.Mode.{Mode}
 use Rattle.melt_safepoint.specs.declared.thread.Mode.TheVariants.{Running, Due, Silent, Collecting, Asked, Lacking}
 use Rattle.melt_safepoint.specs.declared.thread.Mode.TheVariants.{Ended}
+use Rattle.melt_safepoint.specs.Needs.{CanLackRoom, StopsAtSafepoint}
 use Rattle.melt_safepoint.specs.Run.{is_lost}
 
 -- a thread that neither waits nor has ended
@@ -26,15 +27,15 @@ abbrev pub HadNoRoom : Mode → Type 0
 HadNoRoom (Ended (end.OutOfHeap held_words need)) = Unit {0}
 HadNoRoom mode = ⊥
 
--- What the mode of a thread says of its next operation: one that runs or waits for its call has one, and one that waits
--- for its own collection has that.
+-- What the mode of a thread says of its next operation: one that runs has one; one that waits for its own collection
+-- has that; one that was asked to stop has one that stops at a safepoint, and one that lacked room one that can.
 abbrev pub FitsMode : Mode → Option Op → Type 0
 FitsMode Running op = IsSome op
 FitsMode Due op = Unit {0}
 FitsMode Silent op = Unit {0}
 FitsMode Collecting op = op ≡ Some Collect
-FitsMode Asked op = IsSome op × (op ≢ Some Collect)
-FitsMode Lacking op = IsSome op × (op ≢ Some Collect)
+FitsMode Asked op = IsSome op × (op ≢ Some Collect) × IfSome op StopsAtSafepoint
+FitsMode Lacking op = IsSome op × (op ≢ Some Collect) × IfSome op CanLackRoom
 FitsMode (Ended e) op = Unit {0}
 
 -- a thread has a silent collection still to come

@@ -16,7 +16,7 @@ use Rattle.melt_safepoint.specs.declared.thread.ThreadState.{ThreadState}
 use Rattle.melt_safepoint.specs.Collections.{CollectsCore, AllMarked, MadeSoFar, NoneForwarded}
 use Rattle.melt_safepoint.specs.Counts.{CountsCollections}
 use Rattle.melt_safepoint.specs.Ended.{StopsSo}
-use Rattle.melt_safepoint.specs.Endings.{HaveMoments}
+use Rattle.melt_safepoint.specs.Endings.{HaveMoments, RestMoments}
 use Rattle.melt_safepoint.specs.Journals.{IsJournalOf, IsTight, Planned, before, end_of, next_of}
 use Rattle.melt_safepoint.specs.Lends.{LendsFew, LendsTwice}
 use Rattle.melt_safepoint.specs.Losses.{CountsLosses}
@@ -25,7 +25,7 @@ use Rattle.melt_safepoint.specs.Needs.{NeedsWords}
 use Rattle.melt_safepoint.specs.Passing.{NoneOwn, WaitsForRoom}
 use Rattle.melt_safepoint.specs.Shown.{Shown, Underlies}
 use Rattle.melt_safepoint.specs.Tables.{TableStands}
-use Rattle.melt_safepoint.specs.Threads.{OweAfterCollects, collections_due}
+use Rattle.melt_safepoint.specs.Threads.{OweAfterCollects, collections_due, SomeGoesOn}
 use Rattle.melt_safepoint.specs.declared.collector.Collector.{Collector}
 use Rattle.melt_safepoint.specs.declared.collector.CollectRefusal.{CollectRefusal}
 use Rattle.melt_safepoint.specs.declared.collector.CollectRefusal.TheVariants as refused
@@ -99,6 +99,22 @@ abbrev pub KeepsRun : Shown → Shown → Row → Row → Type 0
 KeepsRun shown later old new = (told : Bool) (script : Script) (config : Config)
     → RunStands told script config shown old → RunStands told script config later new
 
+-- a run that is told has its moments, and is at a safepoint
+abbrev pub RestsSo : Bool → Script → Config → Row → Type 0
+RestsSo told script config run =
+    told ≡ true → RestMoments script run.view.log run.states config run.collector.journal.items
+
+-- And it stands. So it does between the collections of a safepoint.
+abbrev pub RunRests : Bool → Script → Config → Shown → Row → Type 0
+RunRests told script config shown run = RunStands told script config shown run × RestsSo told script config run
+
+abbrev pub SomeRests : Shown → Row → Type 0
+SomeRests shown run = (told : Bool) × (script : Script) × (config : Config) × RunRests told script config shown run
+
+abbrev pub KeepsRest : Shown → Shown → Row → Row → Type 0
+KeepsRest shown later old new = (told : Bool) (script : Script) (config : Config)
+    → RunRests told script config shown old → RunRests told script config later new
+
 -- what stands before a part of a safepoint, told or not, for a script
 abbrev pub Standpoint : Type 1
 Standpoint = Bool → Script → Config → Type 0
@@ -112,16 +128,22 @@ abbrev pub StopsRun : Shown → Shown → Row → Stop → Type 0
 StopsRun shown later old stop =
     StopsFrom (λ told script config. RunStands told script config shown old) later stop
 
--- and so whatever is unpaid
+-- and so at a safepoint
+abbrev pub StopsRest : Shown → Shown → Row → Stop → Type 0
+StopsRest shown later old stop =
+    StopsFrom (λ told script config. RunRests told script config shown old) later stop
+
+-- and so whatever is unpaid, where some thread has not ended
 abbrev pub StopsBut : Shown → Shown → Row → Stop → Type 0
 StopsBut shown later old stop =
-    StopsFrom (λ told script config. (unpaid : ℕ) × StandsBut unpaid told script config shown old) later stop
+    StopsFrom (λ told script config. ((unpaid : ℕ) × StandsBut unpaid told script config shown old)
+    × SomeGoesOn old.states) later stop
 
 -- and so where a collection was to be made, which may be forced only where an object might have no room
 abbrev pub StopsForced : Bool → Shown → Shown → Row → Stop → Type 0
 StopsForced force shown later old stop =
     StopsFrom (λ told script config. ((unpaid : ℕ) × StandsBut unpaid told script config shown old)
-    × (force ≡ true → IsTight config (last_of old.collector))) later stop
+    × (force ≡ true → IsTight config (last_of old.collector)) × SomeGoesOn old.states) later stop
 
 -- and so where a run was stopped
 abbrev pub StopLends : (readers more lends lends_after : ℕ) → List Journal → Stop → Type 0
@@ -178,6 +200,7 @@ LeftBy (suc (suc k)) v = OnlyHeld v
 pub record AwaitsCall (told : Bool) (script : Script) (config : Config) (shown : Shown) (forced : ℕ) (run : Row)
     (t : ℕ) : Type 0 where
   pub stands : StandsBut (suc forced) told script config shown run
+  pub safe : RestsSo told script config run
   pub few : forced ≤ 2
   pub owed : OweAfterCollects script run.states
   pub collected : JustCollected run
@@ -203,6 +226,7 @@ LacksBy config (suc (suc k)) v need = NoRoom config v need
 pub record LacksWords (told : Bool) (script : Script) (config : Config) (shown : Shown) (forced : ℕ) (run : Row)
     (t need : ℕ) : Type 0 where
   pub stands : StandsBut (suc forced) told script config shown run
+  pub safe : RestsSo told script config run
   pub few : forced ≤ 2
   pub owed : OweAfterCollects script run.states
   pub own : NoneOwn run.states
@@ -218,10 +242,10 @@ abbrev pub SomeLacksWords : Shown → ℕ → Row → ℕ → ℕ → Type 0
 SomeLacksWords shown forced run t need = (told : Bool) × (script : Script) × (config : Config)
     × LacksWords told script config shown forced run t need
 
--- So many collections were made of a run that stood, each as it was planned.
+-- So many collections were made of a run at a safepoint, each as it was planned.
 abbrev pub MakesPlanned : ℕ → Shown → Row → Row → Type 0
 MakesPlanned n shown old new = (told : Bool) (script : Script) (config : Config)
-    → RunStands told script config shown old → Planned config n (journal_of old) (journal_of new)
+    → RunRests told script config shown old → Planned config n (journal_of old) (journal_of new)
 
 -- What was collected for a thread: one collection as it was planned, if it waited for one. Else all is as before.
 pub record MakesFor (s : ThreadState) (shown : Shown) (old new : Row) : Type 0 where

@@ -101,14 +101,18 @@ is_lost e = false
 abbrev pub lost_in : Report → ℕ
 lost_in report = count_by (λ (r : ThreadReport). is_lost r.end) report.threads
 
--- why a run may have been halted: by a disk that was full for a Move, which was planned or forced, or by one that
--- failed
+-- some thread was halted
+abbrev pub SomeHalted : Report → Type 0
+SomeHalted report = (t : ℕ) × ((r : ThreadReport) × (slice_get report.threads t ≡ Some r) × (r.end ≡ end.Halted))
+
+-- Why a run may have been halted: by a disk that was full for a Move, which was planned or forced, or by one that
+-- failed. Some thread had not ended then.
 abbrev pub MayHalt : Config → Report → Option Halt → Type 0
 MayHalt config report None = Unit {0}
 MayHalt config report (Some (halt.DiskFull end need limit)) = (limit ≡ config.disk) × (limit < end + need)
     × (end ≡ end_of (before report.journal (length report.journal)))
-    × MayMove config (before report.journal (length report.journal))
-MayHalt config report (Some halt.DiskFault) = Unit {0}
+    × MayMove config (before report.journal (length report.journal)) × SomeHalted report
+MayHalt config report (Some halt.DiskFault) = SomeHalted report
 
 -- What a run reports of a trace, over a disk that tells its words or not. Its history is a value of the report. The
 -- journal has the collections, each of its phase: those that threads asked for, the silent ones, but for one of each
@@ -149,11 +153,12 @@ pub record IsLeft (told : Bool) (script : Script) (config : Config) (shown : Sho
   pub placed : told ≡ true → (maps : Maps) × ((disk : OnDisk) × Underlies told shown.end shown.image disk
       × HasMaps heap maps × Placed report.history (λ t r. Nil) maps (state_of heap [] disk))
 
--- The disk had no room for the new homes of a Move collection of the heap that is left, with what the halted threads
--- hold: they need so many words from the end on.
+-- The disk had no room for the new homes of a Move collection of the heap that is left, by its own maps, with what the
+-- halted threads hold: they need so many words from the end on.
 pub record IsFull (script : Script) (shown : Shown) (report : Report) (heap : Heap) (end need : ℕ) : Type 0 where
   pub end_is : end ≡ shown.end
   pub maps : Maps
+  pub has : HasMaps heap maps
   pub disk : OnDisk
   pub under : Underlies true shown.end shown.image disk
   pub registers : List Registers

@@ -20,8 +20,9 @@ ghost use Rattle.melt_safepoint.specs.Losses.{CountsLosses, losses};
 ghost use Rattle.melt_safepoint.specs.Makes.{EndsForRoom, MakesCollections, MakesRoom, MovesFew};
 ghost use Rattle.melt_safepoint.specs.Modes.{ForCollection};
 ghost use Rattle.melt_safepoint.specs.Passing.{CollectedAll, CollectedAt, NoneOwn};
-ghost use Rattle.melt_safepoint.specs.Rows.{AwaitsCall, KeepsRun, LacksWords, MakesCollection, MakesFor, MakesForAll};
-ghost use Rattle.melt_safepoint.specs.Rows.{NoRoom, RunStands, SomeAwaits, SomeLacksWords, SomeStands, StopCounts};
+ghost use Rattle.melt_safepoint.specs.Rows.{AwaitsCall, KeepsRest, KeepsRun, LacksWords, MakesCollection, MakesFor};
+ghost use Rattle.melt_safepoint.specs.Rows.{MakesForAll, NoRoom, RunStands, SomeAwaits, SomeLacksWords, SomeRests};
+ghost use Rattle.melt_safepoint.specs.Rows.{SomeStands, StopCounts, StopsRest};
 ghost use Rattle.melt_safepoint.specs.Rows.{StopKeeps, StopLends, StopStores, StopTwice, StopsForced, StopsFrom};
 ghost use Rattle.melt_safepoint.specs.Rows.{StopsRun};
 ghost use Rattle.melt_safepoint.specs.Rows.{journal_of, row_of};
@@ -124,7 +125,7 @@ impl<'a, E: Machine> Run<'a, E> {
         requires engine { IsEngine C.Fn F.Fn E.view E.stored S.sees engine.now }
         requires stands { SomeStands (S.sees.shown space.old) (row_of E.view self) }
         requires thread { thread < length self.states.items }
-        ensures keeps { IfOk result (λ run. KeepsRun (S.sees.shown space.old) (S.sees.shown space.new)
+        ensures keeps { IfOk result (λ run. KeepsRest (S.sees.shown space.old) (S.sees.shown space.new)
             (row_of E.view self.entry) (row_of E.view run)) }
         ensures only { IfOk result (λ run. CollectedAt self.entry.states.items run.states.items thread) }
         ensures made { IfOk result (λ run. (s : ThreadState) → slice_get self.entry.states.items thread ≡ Some s
@@ -171,14 +172,14 @@ impl<'a, E: Machine> Run<'a, E> {
             Option<u32>,
         ) -> Result<(Run<'a, E>, Option<u32>), Stop<'a>>,
         requires engine { IsEngine C.Fn F.Fn E.view E.stored S.sees engine.now }
-        requires stands { SomeStands (S.sees.shown space.old) (row_of E.view self) }
-        ensures keeps { IfOk result (λ run. KeepsRun (S.sees.shown space.old) (S.sees.shown space.new)
+        requires stands { SomeRests (S.sees.shown space.old) (row_of E.view self) }
+        ensures keeps { IfOk result (λ run. KeepsRest (S.sees.shown space.old) (S.sees.shown space.new)
             (row_of E.view self.entry) (row_of E.view run)) }
         ensures all { IfOk result (λ run. CollectedAll self.entry.states.items run.states.items) }
         ensures made { IfOk result (λ run. MakesForAll (S.sees.shown space.old) (row_of E.view self.entry)
             (row_of E.view run)) }
         ensures lost { IfOk result (λ run. losses run.states.items ≡ losses self.entry.states.items) }
-        ensures stopped { IfErr result (StopsRun (S.sees.shown space.old) (S.sees.shown space.new)
+        ensures stopped { IfErr result (StopsRest (S.sees.shown space.old) (S.sees.shown space.new)
             (row_of E.view self.entry)) }
         ensures same_disk { S.sees.name space.new ≡ S.sees.name space.old }
         ensures count { S.sees.faults space.old ≤ S.sees.faults space.new }

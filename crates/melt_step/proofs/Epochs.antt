@@ -33,6 +33,7 @@ use Rattle.melt_safepoint.specs.Tables.{Renewed, TableStands}
 use Rattle.melt_safepoint.specs.Threads.{OweAfterCollects}
 use Rattle.melt_safepoint.specs.declared.collector.Collector.{Collector}
 use Rattle.melt_safepoint.specs.declared.thread.ThreadState.{ThreadState}
+use Rattle.melt_safepoint.proofs.AtSafepoint.{safe_same}
 use Rattle.melt_safepoint.proofs.Cuts.{held_words_same}
 use Rattle.melt_safepoint.proofs.TableCounts.{counts_of}
 use Rattle.melt_safepoint.proofs.Tables.{Table_renewed}
@@ -199,6 +200,7 @@ renews_awaits {told} {script} {config} {shown} {forced} {old} {new} {t} r awaits
     awaits.collected.journal stands.collector.journal in
     record {
       stands = renews_stands r stands;
+      safe = safe_same old new r.finished.log r.states r.collector awaits.safe;
       few = awaits.few;
       owed = subst (OweAfterCollects script) (sym r.states) awaits.owed;
       collected = renews_collected r stands awaits.collected;

@@ -30,6 +30,7 @@ use Rattle.melt_safepoint.specs.Shown.{Shown, Underlies}
 use Rattle.melt_safepoint.specs.Threads.{DueBy, OweAfterCollects, jobs_of, left, with_first}
 use Rattle.melt_safepoint.specs.Modes.{FitsMode, IsEnded, jobs, mode_for}
 use Rattle.melt_safepoint.specs.Endings.{HaveMoments}
+use Rattle.melt_safepoint.proofs.AtSafepoint.{safe_same}
 use Rattle.melt_safepoint.proofs.Counting.{Adds, counts_paid}
 use Rattle.melt_safepoint.proofs.Cuts.{held_words_same, needs_same}
 use Rattle.melt_safepoint.proofs.Journals.{before_end}
@@ -54,7 +55,9 @@ pub lacking_next : {told : Bool} {script : Script} {config : Config} {disk : OnD
     {states : List ThreadState} {t : ℕ} {s : ThreadState} → TableStands told script config disk v states
     → IsLacking states t s → IsSome s.op × (s.op ≢ Some Collect)
 lacking_next {told} {script} {config} {disk} {v} {states} {t} {s} table was =
-    subst (λ (m : Mode). FitsMode m s.op) was.lacking (table.each t s was.at).fits
+    let fits : FitsMode Lacking s.op =
+    subst (λ (m : Mode). FitsMode m s.op) was.lacking (table.each t s was.at).fits in
+    (fits.0, fits.1)
 
 -- what there is, if there is something
 what_is : (next : Option Op) → IsSome next → (o : Op) × (next ≡ Some o)
@@ -402,6 +405,7 @@ lacked_words {told} {script} {config} {shown} {forced} {old} {new} {t} {lacks} n
     let above : length v.space.list + 1 < v.free + need = alone.above in
     record {
       stands = lacked_stands need awaits m is;
+      safe = safe_same old new alone.history states m.collector awaits.safe;
       few = awaits.few;
       owed = subst (OweAfterCollects script) (sym states) awaits.owed;
       own = subst NoneOwn (sym states) awaits.own;

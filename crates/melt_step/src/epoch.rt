@@ -15,7 +15,7 @@ ghost use Rattle.melt_safepoint.specs.Passing.{NoneOwn, Resumed};
 ghost use Rattle.melt_safepoint.specs.Rows.{SomeAwaits, StandsBut, row_of};
 ghost use Rattle.melt_safepoint.specs.Shown.{Shown};
 ghost use Rattle.melt_safepoint.specs.Tables.{KnowsStop, potential};
-ghost use Rattle.melt_safepoint.specs.Threads.{AllWait};
+ghost use Rattle.melt_safepoint.specs.Threads.{AllWait, SomeGoesOn};
 ghost use Rattle.melt_step.specs.Going.{CallsFirst, ComesToRest, IsNearer, KeepsGoing, SomeStandsInside};
 ghost use Rattle.melt_step.specs.Going.{core_view};
 ghost use Rattle.melt_step.specs.Turns.{GoesAt};
@@ -73,7 +73,7 @@ pub fn give_up<'a, const STORED: usize>(run: Run<'a, Ordered<'a, STORED>>) -> En
     requires quiet { IsQuiet (view run.machine.core) }
     requires stored { stores (view run.machine.core) ≡ (STORED == 1) }
     ensures stands { (told : Bool) (script : Script) (config : Config) (unpaid : ℕ) (shown : Shown)
-        → StandsBut unpaid told script config shown (row_of core_view run.entry)
+        → StandsBut unpaid told script config shown (row_of core_view run.entry) → SomeGoesOn run.entry.states.items
         → EndedStands told script config shown result }
     ensures lost { (faults : ℕ) → CountsLosses run.entry.states.items result.states.items faults faults }
     ensures halt { result.halt ≡ Some Halt.DiskFault }

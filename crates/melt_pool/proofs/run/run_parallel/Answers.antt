@@ -91,7 +91,7 @@ returns-in-Err-Failed-clause-so g c =
       count = c.lend_all.ensures.count;
       lost = tt;
       stopped = λ told script config before.
-          stands_failed (shown_by g.D.StaleDisk.image c.lend_all.new.space) before.1
+          stands_failed (shown_by g.D.StaleDisk.image c.lend_all.new.space) before.0.1 before.1
           (c.left_of-left.ensures.heap, c.left_of-left.ensures.history) (record {
             left_is = c.halt_run-ended.ensures.left;
             states = c.halt_run-ended.ensures.states;

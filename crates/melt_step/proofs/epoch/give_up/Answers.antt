@@ -8,8 +8,8 @@ use Rattle.melt_step.proofs.Stored.{names_as}
 use Rattle.melt_step.proofs.epoch.give_up.Goals as goal
 
 pub returns-clause-stands : goal.returns-clause-stands
-returns-clause-stands g c = λ told script config unpaid shown stands.
-    stands_failed shown stands (
+returns-clause-stands g c = λ told script config unpaid shown stands some.
+    stands_failed shown stands some (
       c.left_of.ensures.heap,
       c.left_of.ensures.history
           ∙ (ap (λ (stored : Bool). history_in stored c.finish-heap.result.1) (sym (names_as (view c.args.run.machine.core) c.finish-heap.result.0 c.finish-heap.result.1

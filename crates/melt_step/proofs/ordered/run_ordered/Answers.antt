@@ -58,7 +58,7 @@ returns-in-Err-Failed-clause-runs g c =
           (shown_by g.D.StaleDisk.image c.lend.new.self) x (Halted c.give_up.result)) (sym row)
           (λ told script config before.
           subst (λ (shown : Shown). EndedStands told script config shown c.give_up.result) (sym same)
-          (c.give_up.ensures.stands told script config before.0 _ before.1));
+          (c.give_up.ensures.stands told script config before.0.0 _ before.0.1 before.1));
       stop_counts = (
         λ is. c.lend.ensures.failed (cc (c.in-Err-Failed.is, c.in-Err-Failed.field-0-is)),
         subst (CountsLosses c.args.run.states.items c.give_up.result.states.items _) (sym c.lend.ensures.read_faults)

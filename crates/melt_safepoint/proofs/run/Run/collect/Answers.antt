@@ -12,7 +12,7 @@ halted_journal {a} {b} {js} same stays = ap (λ (v : Vec Journal Global). v.item
 
 pub returns-in-Err-DiskFull-clause-stopped : goal.returns-in-Err-DiskFull-clause-stopped
 returns-in-Err-DiskFull-clause-stopped g c = λ told script config before.
-    stands_full c.args.force before.0.1 before.1
+    stands_full c.args.force before.0.1 before.2 before.1
     (refused_full _ _ _ _ _ _ c.in-Err-DiskFull.field-0-is c.in-Err-DiskFull.ensures.refused) (record {
       left_is = c.halt_run.ensures.left;
       states = c.halt_run.ensures.states;
@@ -37,7 +37,7 @@ returns-clause-stop_keeps g c =
 
 pub returns-clause-stopped : goal.returns-clause-stopped
 returns-clause-stopped g c = λ told script config before.
-    stands_failed _ before.0.1 (refused_failed (phase_done c.args.force c.args.self.collector.plan.next) _ _ _ _ _
+    stands_failed _ before.0.1 before.2 (refused_failed (phase_done c.args.force c.args.self.collector.plan.next) _ _ _ _ _
     c.in-Err-DiskFault.field-0-is c.in-Err-DiskFault.ensures.refused) (record {
       left_is = c.halt_run-in-Err-DiskFault.ensures.left;
       states = c.halt_run-in-Err-DiskFault.ensures.states;

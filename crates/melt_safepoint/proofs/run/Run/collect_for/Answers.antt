@@ -1,13 +1,14 @@
 -- The collection of a thread that waits for one.
-use Rattle.std.proofs.Common.{◌≡◌, ◌<◌, List, length, refl, sym, ◌∙◌, ap, subst, arith}
+use Rattle.std.proofs.Common.{◌≡◌, ◌<◌, List, length, refl, sym, ◌∙◌, ap, subst, arith, ◌⊎◌, inl, inr}
 use Rattle.std.proofs.Math.ListN.{set}
 use Rattle.std.proofs.lemmas.Option.{same_Some, slice_get_read}
 use Rattle.std.proofs.lemmas.Result.{err_from_is_err_and}
 use Rattle.std.specs.Prelude.{Some, slice_get, vec_capacity}
-use Rattle.melt_safepoint.specs.declared.thread.Mode.TheVariants.{Collecting}
+use Rattle.melt_safepoint.specs.declared.thread.Mode.{Mode}
+use Rattle.melt_safepoint.specs.declared.thread.Mode.TheVariants.{Collecting, Silent}
 use Rattle.melt_safepoint.specs.declared.thread.ThreadState.{ThreadState}
 use Rattle.melt_safepoint.specs.Passing.{CollectedFor}
-use Rattle.melt_safepoint.specs.Modes.{ForCollection}
+use Rattle.melt_safepoint.specs.Modes.{ForCollection, IsEnded}
 use Rattle.melt_safepoint.specs.Rows.{MakesFor, Row, row_of}
 use Rattle.melt_safepoint.proofs.Collected.{may_collect}
 use Rattle.melt_safepoint.proofs.Collections.{other_stays, taken_fewer, taken_losses, waits_none}
@@ -29,6 +30,11 @@ read : (g : Over) (c : After-index g) → slice_get c.args.self.states.items c.a
 read g c = slice_get_read c.args.self.states.items
     (length c.args.self.states.items) c.args.thread c.index.result.now refl c.requires.thread c.index.ensures
 
+-- a thread that waits for a collection has not ended
+waiting_goes : (mode : Mode) → (mode ≡ Collecting) ⊎ (mode ≡ Silent) → IsEnded mode → ⊥
+waiting_goes mode (inl own) over = subst IsEnded own over
+waiting_goes mode (inr silent) over = subst IsEnded silent over
+
 pub returns-in_default : goal.returns-in_default
 returns-in_default g c =
     let s : ThreadState = c.index.result.now in
@@ -36,7 +42,7 @@ returns-in_default g c =
     let at = read g (goal.at.returns-in_default g c).After-index in
     let never = waits_none s.mode c.in_default.not-Silent c.in_default.not-Collecting in
     record {
-      keeps = λ told script config stands. stands;
+      keeps = λ told script config rests. rests;
       only = λ x there. (
         s,
         sym (set_got c.args.self.states.items c.args.thread s at),
@@ -70,7 +76,15 @@ pub returns-in_err-run-clause-stopped : goal.returns-in_err-run-clause-stopped
 returns-in_err-run-clause-stopped g c =
     let exit = err_from_is_err_and c.from_residual.result c.from_residual.ensures.1 in
     rw (exit.1, exit.2)
-    (stops_planned _ _ (row_of g.E.Machine.view c.args.self) _ c.in_err-run.ensures.stopped)
+    (stops_planned _ _ (row_of g.E.Machine.view c.args.self) _ (
+      c.args.thread,
+      (
+        c.index.result.now,
+        read g (goal.at.returns-in_err-run-clause-stopped g c).After-index,
+        waiting_goes c.index.result.now.mode
+            c.in-Collecting.is,
+      ),
+    ) c.in_err-run.ensures.stopped)
 
 pub take_collection-requires : goal.take_collection-requires
 take_collection-requires g c =

@@ -7,7 +7,7 @@ use Rattle.melt_safepoint.proofs.Losses.{counts_same}
 use Rattle.melt_safepoint.proofs.Outcomes.{state_at}
 use Rattle.melt_safepoint.proofs.Passing.{CollectedBelow, collected_none, collected_more, collected_all}
 use Rattle.melt_safepoint.proofs.Lends.{planned_longer}
-use Rattle.melt_safepoint.proofs.Composing.{stop_counts_then, stops_then}
+use Rattle.melt_safepoint.proofs.Composing.{stop_counts_then, stops_there}
 use Rattle.melt_safepoint.proofs.OwnCollections.{below_none, below_more, below_all}
 use Rattle.melt_safepoint.specs.Rows.{Row, journal_of, row_of}
 use Rattle.melt_safepoint.proofs.StopLends.{twice_stop_none}
@@ -23,7 +23,7 @@ collect_for-requires g c κs = (
         c.requires.stands.0,
         c.requires.stands.1,
         c.requires.stands.2,
-        c.loop-t.invariant.keeps c.requires.stands.0 c.requires.stands.1 c.requires.stands.2 c.requires.stands.3,
+        (c.loop-t.invariant.keeps c.requires.stands.0 c.requires.stands.1 c.requires.stands.2 c.requires.stands.3).0,
       ),
       omega (
         arith,
@@ -39,7 +39,7 @@ collect_for-requires g c κs = (
 pub loop-t-init : goal.loop-t-init
 loop-t-init g c =
     record {
-      keeps = λ told script config stands. stands;
+      keeps = λ told script config rests. rests;
       below = collected_none c.args.self.states.items;
       made = below_none _ (row_of g.E.Machine.view c.args.self);
       lost = refl;
@@ -58,8 +58,8 @@ loop-t-preserved g c =
     let state : (s : ThreadState) × (slice_get states c.loop-t.t ≡ Some s) =
     state_at states c.loop-t.t (omega (arith, within, below.count)) in
     record {
-      keeps = λ told script config stands.
-          c.in_ok-run.ensures.keeps told script config (c.loop-t.invariant.keeps told script config stands);
+      keeps = λ told script config rests.
+          c.in_ok-run.ensures.keeps told script config (c.loop-t.invariant.keeps told script config rests);
       below = collected_more states c.loop-t.run.states.items c.in_ok-run.run'.states.items c.loop-t.t below within
           c.in_ok-run.ensures.only;
       made = below_more c.loop-t.invariant.made state.1 c.loop-t.invariant.keeps
@@ -75,7 +75,7 @@ pub returns-in_err-run-clause-stopped : goal.returns-in_err-run-clause-stopped
 returns-in_err-run-clause-stopped g c =
     let exit = err_from_is_err_and c.from_residual.result c.from_residual.ensures.1 in
     rw (exit.1, exit.2)
-    (stops_then _ _ _ (row_of g.E.Machine.view c.args.self) (row_of g.E.Machine.view c.loop-t.run) _
+    (stops_there _ _ _ (row_of g.E.Machine.view c.args.self) (row_of g.E.Machine.view c.loop-t.run) _
     c.loop-t.invariant.keeps c.in_err-run.ensures.stopped)
 
 pub returns-in_err-run-clause-stop_counts : goal.returns-in_err-run-clause-stop_counts

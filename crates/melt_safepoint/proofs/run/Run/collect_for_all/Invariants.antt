@@ -2,13 +2,13 @@
 use Rattle.std.proofs.Common.{◌≡◌, ◌≤◌}
 use Rattle.melt_safepoint.specs.Losses.{losses}
 use Rattle.melt_safepoint.proofs.Passing.{CollectedBelow}
-use Rattle.melt_safepoint.specs.Rows.{KeepsRun, row_of}
+use Rattle.melt_safepoint.specs.Rows.{KeepsRest, row_of}
 use Rattle.melt_safepoint.proofs.OwnCollections.{MadeBelow}
 use Rattle.melt_safepoint.proofs.run.Run.collect_for_all.Given as goal
 
 abbrev pub invariant-loop-t : goal.invariant-loop-t
 invariant-loop-t g l = record {
-  keeps : KeepsRun (g.S.DiskSpace.sees.shown l.fn.space) (g.S.DiskSpace.sees.shown l.space) (row_of g.E.Machine.view
+  keeps : KeepsRest (g.S.DiskSpace.sees.shown l.fn.space) (g.S.DiskSpace.sees.shown l.space) (row_of g.E.Machine.view
       l.fn.self)
       (row_of g.E.Machine.view l.run);
   below : CollectedBelow l.fn.self.states.items l.run.states.items l.t;

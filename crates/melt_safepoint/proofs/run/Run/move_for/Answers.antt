@@ -19,6 +19,7 @@ use Rattle.melt_safepoint.proofs.Collected.{journal_more, may_collect, moved_one
 use Rattle.melt_safepoint.proofs.Composing.{stop_counts_then}
 use Rattle.melt_safepoint.proofs.Epochs.{goes_journal, goes_keeps, goes_less, goes_rests}
 use Rattle.melt_safepoint.proofs.Gone.{gone_less, gone_own, gone_settled}
+use Rattle.melt_safepoint.proofs.Lacking.{room_goes}
 use Rattle.melt_safepoint.proofs.Lends.{lends_more, lends_none, lends_one, lends_after, lends_then}
 use Rattle.melt_safepoint.proofs.Losses.{counts_same, counts_then}
 use Rattle.melt_safepoint.proofs.StopLends.{stop_after, stop_more, stop_one, stop_since, stop_then}
@@ -64,8 +65,11 @@ returns-in_err-moved-clause-stopped g c =
     let exit = err_from_is_err_and c.from_residual.result c.from_residual.ensures.1 in
     rw (exit.1, exit.2) (λ told script config lacks.
     let still = c.loop-forced.invariant.lacks told script config lacks in
-    c.in_err-moved.ensures.stopped told script config
-    ((suc c.loop-forced.forced, still.stands), λ is. still.tight))
+    c.in_err-moved.ensures.stopped told script config (
+      (suc c.loop-forced.forced, still.stands),
+      λ is. still.tight,
+      room_goes c.loop-forced.run.states.items c.args.thread still.waits,
+    ))
 
 -- after one Move more the thread awaits its call
 awaits : (g : Over) (c : In_ok-moved g) (told : Bool) (script : Script) (config : Config)

@@ -32,7 +32,8 @@ pub returns-in_err-run-clause-stopped : goal.returns-in_err-run-clause-stopped
 returns-in_err-run-clause-stopped g c =
     let exit = err_from_is_err_and c.from_residual.result c.from_residual.ensures.1 in
     rw (exit.1, exit.2)
-    (stops_paid _ _ (row_of g.E.Machine.view c.args.self) _ c.in_err-run.ensures.stopped)
+    (stops_paid _ _ (row_of g.E.Machine.view c.args.self) _ (c.has_ended.ensures.goes c.if-has_ended.false)
+    c.in_err-run.ensures.stopped)
 
 pub returns-clause-goes : goal.returns-clause-goes
 returns-clause-goes g c = inr (runs_on _ _ _ _ c.in_ok-run.ensures.ends)

@@ -15,7 +15,7 @@ use Rattle.melt_safepoint.specs.Threads.{SomeGoesOn, collections_due}
 use Rattle.melt_safepoint.specs.declared.thread.ThreadState.{ThreadState}
 use Rattle.melt_safepoint.proofs.Collected.{may_collect}
 use Rattle.melt_safepoint.proofs.Composing.{BeforeCall, awaits_call, before_made, before_same, stop_counts_then}
-use Rattle.melt_safepoint.proofs.Composing.{stops_planned, stops_then}
+use Rattle.melt_safepoint.proofs.Composing.{begins_rest, stops_planned, stops_rest, stops_there}
 use Rattle.melt_safepoint.proofs.Epochs.{goes_journal, goes_keeps, goes_less, goes_rests, someone_waits}
 use Rattle.melt_safepoint.proofs.Lacking.{room_goes}
 use Rattle.melt_safepoint.proofs.Lends.{lends_after, lends_one, lends_since, lends_twice, planned_longer}
@@ -31,7 +31,9 @@ use Rattle.melt_safepoint.proofs.run.Run.pass_safepoint.Goals.{In_ok-run, In_def
 use Rattle.melt_safepoint.proofs.run.Run.pass_safepoint.Goals.{then-len-made+in_ok-run-2, else-len-made}
 
 pub collect_for_all-requires : goal.collect_for_all-requires
-collect_for_all-requires g c κs = ((refl, tt), (c.requires.engine, c.requires.stands))
+collect_for_all-requires g c κs =
+    let was = c.requires.stands in
+    ((refl, tt), (c.requires.engine, (was.0, was.1, was.2, begins_rest c.requires.rests.waits was.3)))
 
 -- a thread waits
 waits : (g : Over) (c : In_ok-run g) → OneWaits c.args.self.states.items
@@ -40,7 +42,9 @@ waits g c = someone_waits c.args.self.states.items c.requires.rests c.requires.s
 -- the run stands after the collections for which threads waited
 stands : (g : Over) (c : In_ok-run g) → RunStands c.requires.stands.0 c.requires.stands.1 c.requires.stands.2
     (g.S.DiskSpace.sees.shown c.collect_for_all.new.space) (row_of g.E.Machine.view c.in_ok-run.run')
-stands g c = c.in_ok-run.ensures.keeps c.requires.stands.0 c.requires.stands.1 c.requires.stands.2 c.requires.stands.3
+stands g c =
+    (c.in_ok-run.ensures.keeps c.requires.stands.0 c.requires.stands.1 c.requires.stands.2
+    (begins_rest c.requires.rests.waits c.requires.stands.3)).0
 
 -- so many collections more were made for threads that waited for their own
 own_longer : (g : Over) (c : In_ok-run g) → length (journal_of (row_of g.E.Machine.view c.in_ok-run.run'))
@@ -48,7 +52,8 @@ own_longer : (g : Over) (c : In_ok-run g) → length (journal_of (row_of g.E.Mac
 own_longer g c =
     planned_longer c.requires.stands.2 (collections_due c.args.self.states.items)
     (journal_of (row_of g.E.Machine.view c.args.self)) (journal_of (row_of g.E.Machine.view c.in_ok-run.run'))
-    (c.in_ok-run.ensures.made.planned c.requires.stands.0 c.requires.stands.1 c.requires.stands.2 c.requires.stands.3)
+    (c.in_ok-run.ensures.made.planned c.requires.stands.0 c.requires.stands.1 c.requires.stands.2
+    (begins_rest c.requires.rests.waits c.requires.stands.3))
 
 -- no thread more was lost with them
 lost : (g : Over) (c : In_ok-run g) → CountsLosses c.args.self.states.items c.in_ok-run.run'.states.items
@@ -89,14 +94,15 @@ returns-in_default-clause-keeps g c =
     if_ok_from c.next_epoch.result _ _ (λ run goes told script config had.
     subst (λ (shown : Shown). RunStands told script config shown (row_of g.E.Machine.view run))
     (sym c.next_epoch.ensures.shown) (goes_keeps told script config _ (row_of g.E.Machine.view c.in_ok-run.run')
-    (row_of g.E.Machine.view run) goes (c.in_ok-run.ensures.keeps told script config had) (settled g at.In_default)
+    (row_of g.E.Machine.view run) goes
+    (c.in_ok-run.ensures.keeps told script config (begins_rest c.requires.rests.waits had)).0 (settled g at.In_default)
     (own g at.In_ok-run))) c.next_epoch.ensures.goes
 
 pub returns-in_default-clause-made : goal.returns-in_default-clause-made
 returns-in_default-clause-made g c =
     if_ok_from c.next_epoch.result _ _ (λ run goes told script config had. record {
       own = journal_of (row_of g.E.Machine.view c.in_ok-run.run');
-      asked = c.in_ok-run.ensures.made.planned told script config had;
+      asked = c.in_ok-run.ensures.made.planned told script config (begins_rest c.requires.rests.waits had);
       room = inl (
         none_lacks c.args.self.states.items c.in_ok-run.run'.states.items c.in_ok-run.ensures.all
             c.in_default.ensures.none,
@@ -154,8 +160,9 @@ returns-in_default-clause-lends g c =
 
 pub returns-in_default-clause-stopped : goal.returns-in_default-clause-stopped
 returns-in_default-clause-stopped g c =
-    if_err_from c.next_epoch.result _ _ (λ stop stops. stops_then _ _ _ (row_of g.E.Machine.view c.args.self)
-    (row_of g.E.Machine.view c.in_ok-run.run') stop c.in_ok-run.ensures.keeps stops) c.next_epoch.ensures.stopped
+    if_err_from c.next_epoch.result _ _ (λ stop stops. stops_rest _ _ (row_of g.E.Machine.view c.args.self) stop
+    c.requires.rests.waits (stops_there _ _ _ (row_of g.E.Machine.view c.args.self)
+    (row_of g.E.Machine.view c.in_ok-run.run') stop c.in_ok-run.ensures.keeps stops)) c.next_epoch.ensures.stopped
 
 pub returns-in_default-clause-stop_counts : goal.returns-in_default-clause-stop_counts
 returns-in_default-clause-stop_counts g c =
@@ -182,13 +189,21 @@ collect-requires g c κs = (
   ),
 )
 
+pub returns-in_err-run-clause-stopped : goal.returns-in_err-run-clause-stopped
+returns-in_err-run-clause-stopped g c =
+    let exit = err_from_is_err_and c.from_residual.result c.from_residual.ensures.1 in
+    rw (exit.1, exit.2)
+    (stops_rest _ _ (row_of g.E.Machine.view c.args.self) _ c.requires.rests.waits c.in_err-run.ensures.stopped)
+
 pub returns-in_err-run-2-clause-stopped : goal.returns-in_err-run-2-clause-stopped
 returns-in_err-run-2-clause-stopped g c =
     let exit = err_from_is_err_and c.from_residual-in_err-run-2.result c.from_residual-in_err-run-2.ensures.1 in
     rw (exit.1, exit.2)
-    (stops_then _ _ _ (row_of g.E.Machine.view c.args.self) (row_of g.E.Machine.view c.in_ok-run.run') _
+    (stops_rest _ _ (row_of g.E.Machine.view c.args.self) _ c.requires.rests.waits
+    (stops_there _ _ _ (row_of g.E.Machine.view c.args.self) (row_of g.E.Machine.view c.in_ok-run.run') _
     c.in_ok-run.ensures.keeps
-    (stops_planned _ _ (row_of g.E.Machine.view c.in_ok-run.run') _ c.in_err-run-2.ensures.stopped))
+    (stops_planned _ _ (row_of g.E.Machine.view c.in_ok-run.run') _
+    (room_goes c.in_ok-run.run'.states.items c.in-Some.thread c.in-Some.ensures.some) c.in_err-run-2.ensures.stopped)))
 
 pub returns-in_err-run-2-clause-stop_counts : goal.returns-in_err-run-2-clause-stop_counts
 returns-in_err-run-2-clause-stop_counts g c =
@@ -230,9 +245,9 @@ keeps_before : (g : Over) (c : Joined-len-made g) (told : Bool) (script : Script
     → RunStands told script config (g.S.DiskSpace.sees.shown c.args.space.now) (row_of g.E.Machine.view c.args.self)
     → AwaitsCall told script config (g.S.DiskSpace.sees.shown c.if-len-made.space) 0
     (row_of g.E.Machine.view c.if-len-made.run) c.in-Some.thread
-keeps_before g c =
+keeps_before g c told script config had =
     awaits_call c.in-Some.thread c.in_ok-run.ensures.keeps c.requires.rests.waits c.in_ok-run.ensures.all
-    (before_call g c) c.in-Some.ensures.some
+    (before_call g c) c.in-Some.ensures.some told script config (begins_rest c.requires.rests.waits had)
 
 pub make_room-requires : goal.make_room-requires
 make_room-requires g c κs =
@@ -283,7 +298,8 @@ all_longer g c =
     planned_longer c.requires.stands.2 (if_none_was (collections_due c.args.self.states.items))
     (journal_of (row_of g.E.Machine.view c.in_ok-run.run')) (journal_of (row_of g.E.Machine.view c.if-len-made.run))
     ((before_call g c).planned c.requires.stands.0 c.requires.stands.1 c.requires.stands.2
-    (stands g (goal.at.Joined-len-made g c).In_ok-run))
+    (c.in_ok-run.ensures.keeps c.requires.stands.0 c.requires.stands.1 c.requires.stands.2
+    (begins_rest c.requires.rests.waits c.requires.stands.3)))
 
 -- one at least
 one_or_more : (n : ℕ) → 1 ≤ n + if_none_was n
@@ -311,7 +327,7 @@ returns-clause-made g c =
     let at = (goal.at.returns-clause-made g c).Joined-len-made in
     if_ok_from c.make_room.result _ _ (λ run makes told script config had. record {
       own = journal_of (row_of g.E.Machine.view c.in_ok-run.run');
-      asked = c.in_ok-run.ensures.made.planned told script config had;
+      asked = c.in_ok-run.ensures.made.planned told script config (begins_rest c.requires.rests.waits had);
       room = inr (
         c.in-Some.thread,
         room_before c.args.self.states.items c.in_ok-run.run'.states.items c.in-Some.thread c.in_ok-run.ensures.all
@@ -321,7 +337,8 @@ returns-clause-made g c =
         record {
           shown = g.S.DiskSpace.sees.shown c.if-len-made.space;
           mid = row_of g.E.Machine.view c.if-len-made.run;
-          planned = (before_call g at).planned told script config (c.in_ok-run.ensures.keeps told script config had);
+          planned = (before_call g at).planned told script config
+              (c.in_ok-run.ensures.keeps told script config (begins_rest c.requires.rests.waits had));
           awaits = keeps_before g at told script config had;
           makes = makes told script config (keeps_before g at told script config had);
         },
