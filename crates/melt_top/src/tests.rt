@@ -29,9 +29,14 @@ const TRACE: &[u8] = b"melt 1\nthreads 1\nglobals 0\nthread 0\nnew 0 1 0\nsame 0
 fn words_of(alloc: Global, line: &str) -> Result<Vec<String>, Fail> {
     let mut words = Vec::new(alloc);
     for word in line.split_whitespace() {
-        words.push(String::from_str(alloc, word)?)?;
+        push_word(alloc, &mut words, word)?;
     }
     Ok(words)
+}
+
+fn push_word(alloc: Global, words: &mut Vec<String>, word: &str) -> Result<(), Fail> {
+    words.push(String::from_str(alloc, word)?)?;
+    Ok(())
 }
 
 fn call<R: Threads + Sync + AllocGlobal, S: Source, K: Sink>(
@@ -46,6 +51,21 @@ fn call<R: Threads + Sync + AllocGlobal, S: Source, K: Sink>(
     Ok(melt(rt, alloc, &words, input, out, &mut disk, &OpenGate))
 }
 
+/// Adds what a thread was told and how it ended.
+fn push_end(
+    alloc: Global,
+    threads: &mut Vec<ThreadReport>,
+    replies: &[Reply],
+    end: ThreadEnd,
+) -> Result<(), Fail> {
+    let items = replies.to_vec(alloc)?;
+    threads.push(ThreadReport {
+        replies: Replies { items },
+        end,
+    })?;
+    Ok(())
+}
+
 fn report(
     alloc: Global,
     replies: &[Reply],
@@ -54,12 +74,7 @@ fn report(
 ) -> Result<Report, Fail> {
     let mut items = Vec::new(alloc);
     for end in ends {
-        items.push(ThreadReport {
-            replies: Replies {
-                items: replies.to_vec(alloc)?,
-            },
-            end: *end,
-        })?;
+        push_end(alloc, &mut items, replies, *end)?;
     }
     Ok(Report {
         threads: ThreadReports { items },
@@ -98,12 +113,34 @@ fn step_writes_each_reply(rt: HostRuntime) -> Result<(), Fail> {
         ),
     ];
     for (trace, text) in cases {
-        let mut source = SteadySource::new(trace.to_vec(rt.alloc())?);
         let mut sink = SteadySink::new(rt.alloc());
-        let status = call(&rt, "step", &mut source, &mut sink)?;
-        same((status, sink.bytes.as_slice()), (Status::Done, text))?;
+        step_into(&rt, trace, &mut sink, text)?;
     }
     Ok(())
+}
+
+/// Runs a trace to its end, and compares what is written to a sink without faults.
+fn step_into<R: Threads + Sync + AllocGlobal>(
+    rt: &R,
+    trace: &[u8],
+    sink: &mut SteadySink,
+    text: &[u8],
+) -> Result<(), Fail> {
+    let mut source = SteadySource::new(trace.to_vec(rt.alloc())?);
+    let status = call(rt, "step", &mut source, sink)?;
+    same((status, sink.bytes.as_slice()), (Status::Done, text))
+}
+
+/// Lets a command run to its end, and write to this sink.
+fn write_into<R: Threads + Sync + AllocGlobal>(
+    rt: &R,
+    line: &str,
+    trace: &[u8],
+    sink: &mut MemSink,
+) -> Result<(), Fail> {
+    let mut source = MemSource::new(trace.to_vec(rt.alloc())?);
+    let status = call(rt, line, &mut source, sink)?;
+    same((line, status), (line, Status::Done))
 }
 
 /// The bytes that a command writes, of a trace that is run to its end.
@@ -112,11 +149,20 @@ fn written<R: Threads + Sync + AllocGlobal>(
     line: &str,
     trace: &[u8],
 ) -> Result<Vec<u8>, Fail> {
-    let mut source = MemSource::new(trace.to_vec(rt.alloc())?);
     let mut sink = MemSink::new(rt.alloc());
-    let status = call(rt, line, &mut source, &mut sink)?;
-    same((line, status), (line, Status::Done))?;
+    write_into(rt, line, trace, &mut sink)?;
     Ok(sink.bytes)
+}
+
+/// Compares the bytes that a command writes, of a trace that is run to its end.
+fn expect_text<R: Threads + Sync + AllocGlobal>(
+    rt: &R,
+    line: &str,
+    trace: &[u8],
+    text: &[u8],
+) -> Result<(), Fail> {
+    let bytes = written(rt, line, trace)?;
+    same((line, bytes.as_slice()), (line, text))
 }
 
 /// What a run with these words is given.
@@ -162,9 +208,7 @@ fn a_run_has_the_least_and_the_largest_disk(rt: HostRuntime) -> Result<(), Fail>
         "step --disk 2 --forward=1",
         "step --forward 65536 --disk=268435456",
     ] {
-        let text = b"thread 0\nok\nyes\nend done\n".as_slice();
-        let got = written(&rt, line, TRACE)?;
-        same((line, got.as_slice()), (line, text))?;
+        expect_text(&rt, line, TRACE, b"thread 0\nok\nyes\nend done\n")?;
     }
     Ok(())
 }
@@ -174,9 +218,8 @@ fn sums_stand_in_the_place_of_replies(rt: HostRuntime) -> Result<(), Fail> {
     let trace =
         b"melt 1\nthreads 2\nglobals 0\nthread 0\nnew 0 0 2\nput 0 0 18446744073709551615\nput 0 1 3\n\
         get 0 0\nget 0 1\nget 0 0\nget 1 0\ndone\nthread 1\ndone\n";
-    let text =
-        b"thread 0\nreplies 7\nsum 1\nend done\nthread 1\nreplies 0\nsum 0\nend done\n".as_slice();
-    same(written(&rt, "step --quiet", trace)?.as_slice(), text)
+    let text = b"thread 0\nreplies 7\nsum 1\nend done\nthread 1\nreplies 0\nsum 0\nend done\n";
+    expect_text(&rt, "step --quiet", trace, text)
 }
 
 #[test]
@@ -187,7 +230,7 @@ fn a_table_follows_the_replies(rt: HostRuntime) -> Result<(), Fail> {
         collect\ncollect\ngload 0 0\nget 0 0\ncollect\ndone\n";
     let text = b"thread 0\nok\nok\nok\nok\nok\nok\nref\n7\nok\nend done\n\
         number,phase,held,live,bodies,stubs,end\n1,inactive,0,3,0,0,1\n2,mark,0,3,0,0,1\n3,mark,3,3,0,0,1\n";
-    same(written(&rt, line, trace)?.as_slice(), text.as_slice())
+    expect_text(&rt, line, trace, text)
 }
 
 #[test]
@@ -195,7 +238,7 @@ fn silent_collections_stand_in_the_table(rt: HostRuntime) -> Result<(), Fail> {
     let line = "step --heap 16 --every 1 --table";
     let text = b"thread 0\nok\nyes\nend done\n\
         number,phase,held,live,bodies,stubs,end\n1,inactive,3,3,0,0,1\n2,inactive,3,3,0,0,1\n";
-    same(written(&rt, line, TRACE)?.as_slice(), text.as_slice())
+    expect_text(&rt, line, TRACE, text)
 }
 
 #[test]
@@ -226,7 +269,7 @@ fn a_log_has_each_entry(rt: HostRuntime) -> Result<(), Fail> {
         ),
     ];
     for (trace, text) in cases {
-        same(written(&rt, "step --log", trace)?.as_slice(), text)?;
+        expect_text(&rt, "step --log", trace, text)?;
     }
     Ok(())
 }
@@ -236,7 +279,7 @@ fn all_three_texts_stand_in_their_order(rt: HostRuntime) -> Result<(), Fail> {
     let line = "step --log --quiet --every=2 --table";
     let text = b"thread 0\nreplies 2\nsum 0\nend done\n\
         number,phase,held,live,bodies,stubs,end\n1,inactive,3,3,0,0,1\nlog 1\nmake 0 0 1 0\n";
-    same(written(&rt, line, TRACE)?.as_slice(), text.as_slice())
+    expect_text(&rt, line, TRACE, text)
 }
 
 #[test]
@@ -248,8 +291,7 @@ fn a_long_list_is_summed(rt: HostRuntime) -> Result<(), Fail> {
     )?;
     let text = b"thread 0\nreplies 70018\nsum 50074964\nend done\n\
         thread 1\nreplies 70018\nsum 50074964\nend done\n";
-    let line = "step --heap 131072 --quiet";
-    same(written(&rt, line, &trace)?.as_slice(), text.as_slice())
+    expect_text(&rt, "step --heap 131072 --quiet", &trace, text)
 }
 
 #[test]
@@ -260,38 +302,69 @@ fn the_heap_is_not_seen_in_sums(rt: HostRuntime) -> Result<(), Fail> {
         "gen --kind table --seed 7 --size 500 --threads 2",
         "gen --kind tree --seed 7 --size 500 --threads 2",
     ];
+    let small = "step --quiet --every 50 --heap=8192";
     for made in traces {
-        let trace = written(&rt, made, b"")?;
-        let large = written(&rt, "step --quiet", &trace)?;
-        let small = written(&rt, "step --quiet --every 50 --heap=8192", &trace)?;
-        same((made, large.as_slice()), (made, small.as_slice()))?;
+        expect_same_text(&rt, made, "step --quiet", small)?;
     }
     Ok(())
+}
+
+/// Compares the bytes that two commands write, of a trace that is made by a third and run to its end.
+fn expect_same_text<R: Threads + Sync + AllocGlobal>(
+    rt: &R,
+    made: &str,
+    one: &str,
+    other: &str,
+) -> Result<(), Fail> {
+    let trace = written(rt, made, b"")?;
+    let wanted = written(rt, one, &trace)?;
+    let got = written(rt, other, &trace)?;
+    same(
+        (made, other, got.as_slice()),
+        (made, other, wanted.as_slice()),
+    )
 }
 
 #[test]
 fn a_sink_that_fails_has_nothing(rt: HostRuntime) -> Result<(), Fail> {
     for word in ["step", "run"] {
-        let mut source = MemSource::new(TRACE.to_vec(rt.alloc())?);
         let mut sink = MemSink::new(rt.alloc());
-        sink.fail.push(1)?;
-        let status = call(&rt, word, &mut source, &mut sink)?;
-        same((word, status), (word, Status::WriteFault))?;
-        same((word, sink.bytes.len()), (word, 0))?;
-        same((word, sink.faults.count()), (word, 1))?;
+        fail_to_write(&rt, word, &mut sink)?;
     }
     Ok(())
+}
+
+fn fail_to_write<R: Threads + Sync + AllocGlobal>(
+    rt: &R,
+    word: &str,
+    sink: &mut MemSink,
+) -> Result<(), Fail> {
+    sink.fail.push(1)?;
+    let mut source = MemSource::new(TRACE.to_vec(rt.alloc())?);
+    let status = call(rt, word, &mut source, sink)?;
+    same(
+        (word, status, sink.bytes.len(), sink.faults.count()),
+        (word, Status::WriteFault, 0, 1),
+    )
 }
 
 #[test]
 fn a_source_that_fails_is_told(rt: HostRuntime) -> Result<(), Fail> {
     let mut source = MemSource::new(TRACE.to_vec(rt.alloc())?);
+    fail_to_read(&rt, &mut source)
+}
+
+fn fail_to_read<R: Threads + Sync + AllocGlobal>(
+    rt: &R,
+    source: &mut MemSource,
+) -> Result<(), Fail> {
     source.fail.push(1)?;
     let mut sink = MemSink::new(rt.alloc());
-    let status = call(&rt, "step", &mut source, &mut sink)?;
-    same(status, Status::ReadFault)?;
-    same(sink.bytes.as_slice(), b"error read\n".as_slice())?;
-    same(source.faults.count(), 1)
+    let status = call(rt, "step", source, &mut sink)?;
+    same(
+        (status, sink.bytes.as_slice(), source.faults.count()),
+        (Status::ReadFault, b"error read\n".as_slice(), 1),
+    )
 }
 
 #[test]
@@ -326,42 +399,67 @@ fn words_that_mean_nothing_read_nothing(rt: HostRuntime) -> Result<(), Fail> {
         "gen --kind list --seed 1 --size 100000 --threads 2",
     ];
     for line in lines {
-        let mut source = MemSource::new(TRACE.to_vec(rt.alloc())?);
         let mut sink = MemSink::new(rt.alloc());
-        let status = call(&rt, line, &mut source, &mut sink)?;
-        same((line, status), (line, Status::Usage))?;
-        let text = b"error usage\n".as_slice();
-        same((line, sink.bytes.as_slice()), (line, text))?;
-        same((line, source.pos, source.calls), (line, 0, 0))?;
+        read_nothing(&rt, line, &mut sink, Status::Usage, b"error usage\n")?;
     }
     Ok(())
+}
+
+/// Compares what words come to of which the trace is not read.
+fn read_nothing<R: Threads + Sync + AllocGlobal>(
+    rt: &R,
+    line: &str,
+    sink: &mut MemSink,
+    wanted: Status,
+    text: &[u8],
+) -> Result<(), Fail> {
+    let mut source = MemSource::new(TRACE.to_vec(rt.alloc())?);
+    let status = call(rt, line, &mut source, sink)?;
+    same(
+        (
+            line,
+            status,
+            sink.bytes.as_slice(),
+            source.pos,
+            source.calls,
+        ),
+        (line, wanted, text, 0, 0),
+    )
 }
 
 #[test]
 fn gen_writes_a_trace_and_reads_nothing(rt: HostRuntime) -> Result<(), Fail> {
     let line = "gen --threads 1 --kind tree --seed=7 --size 2";
-    let mut source = MemSource::new(TRACE.to_vec(rt.alloc())?);
     let mut sink = MemSink::new(rt.alloc());
-    same(call(&rt, line, &mut source, &mut sink)?, Status::Done)?;
     let text =
         b"melt 1\nthreads 1\nglobals 1\nthread 0\nnew 0 2 1\nput 0 0 7191089600892374487\ngstore 0 0\n\
         gload 0 0\nnew 1 2 1\nput 1 0 309689372594955804\nstore 0 0 1\ndrop 0\ndrop 1\ndone\n";
-    same(sink.bytes.as_slice(), text.as_slice())?;
-    same((source.pos, source.calls), (0, 0))
+    read_nothing(&rt, line, &mut sink, Status::Done, text)
 }
 
 #[test]
 fn a_trace_that_was_made_runs(rt: HostRuntime) -> Result<(), Fail> {
     let line = "gen --kind list --seed 1 --size 10 --threads 1";
-    let mut nothing = MemSource::new(Vec::new(rt.alloc()));
-    let mut trace = MemSink::new(rt.alloc());
-    same(call(&rt, line, &mut nothing, &mut trace)?, Status::Done)?;
-    let mut source = MemSource::new(trace.bytes);
-    let mut sink = MemSink::new(rt.alloc());
-    let status = call(&rt, "step --heap=64", &mut source, &mut sink)?;
-    same(status, Status::Done)?;
+    let trace = written(&rt, line, b"")?;
     let end = b"ref\n9\nref\n8\nref\n7\nref\n6\nref\n5\nref\n4\nref\n3\nref\n2\nok\nok\nend done\n";
-    same(sink.bytes.as_slice().ends_with(end), true)
+    expect_end(&rt, "step --heap=64", &trace, end)
+}
+
+/// Compares the last bytes that a command writes, of a trace that is run to its end.
+fn expect_end<R: Threads + Sync + AllocGlobal>(
+    rt: &R,
+    line: &str,
+    trace: &[u8],
+    end: &[u8],
+) -> Result<(), Fail> {
+    let bytes = written(rt, line, trace)?;
+    same((line, bytes.as_slice().ends_with(end)), (line, true))
+}
+
+/// Compares the text of a report.
+fn expect_report(alloc: Global, report: &Report, wanted: &[u8]) -> Result<(), Fail> {
+    let text = report_text(alloc, report, REPLIES)?;
+    same(text.as_slice(), wanted)
 }
 
 #[test]
@@ -382,11 +480,14 @@ fn a_report_has_each_reply_end_and_halt(rt: HostRuntime) -> Result<(), Fail> {
         need: 0,
         limit: 12,
     };
-    let whole = report(rt.alloc(), &replies, &[end], Some(full))?;
-    let text = report_text(rt.alloc(), &whole, REPLIES)?;
-    let want = b"thread 0\nok\nnull\nref\n18446744073709551615\nyes\nno\nnil\nrange\nend done\n\
+    let text = b"thread 0\nok\nnull\nref\n18446744073709551615\nyes\nno\nnil\nrange\nend done\n\
         halt disk-full 7 0 12\n";
-    same(text.as_slice(), want.as_slice())?;
+    let whole = report(rt.alloc(), &replies, &[end], Some(full))?;
+    expect_report(rt.alloc(), &whole, text)
+}
+
+#[test]
+fn a_report_has_each_end_that_is_bad(rt: HostRuntime) -> Result<(), Fail> {
     let ends = [
         ThreadEnd::OutOfHeap { held: 3, need: 64 },
         ThreadEnd::DiskFault,
@@ -397,12 +498,17 @@ fn a_report_has_each_reply_end_and_halt(rt: HostRuntime) -> Result<(), Fail> {
         },
         ThreadEnd::Halted,
     ];
-    let broken = report(rt.alloc(), &[], &ends, Some(Halt::DiskFault))?;
-    let text = report_text(rt.alloc(), &broken, REPLIES)?;
-    let want =
+    let text =
         b"thread 0\nend out-of-heap 3 64\nthread 1\nend disk-fault\nthread 2\nend damaged 2 0 9\n\
         thread 3\nend halted\nhalt disk-fault\n";
-    same(text.as_slice(), want.as_slice())
+    let broken = report(rt.alloc(), &[], &ends, Some(Halt::DiskFault))?;
+    expect_report(rt.alloc(), &broken, text)
+}
+
+/// The status for a report of these ends.
+fn status_of(alloc: Global, ends: &[ThreadEnd], halt: Option<Halt>) -> Result<Status, Fail> {
+    let report = report(alloc, &[], ends, halt)?;
+    Ok(status_for(&report))
 }
 
 #[test]
@@ -427,9 +533,8 @@ fn a_report_has_the_status_of_its_worst_end(rt: HostRuntime) -> Result<(), Fail>
         ([damaged, out], Some(Halt::DiskFault), Status::DiskFault, 4),
     ];
     for (ends, halt, status, code) in cases {
-        let report = report(rt.alloc(), &[], &ends, halt)?;
-        same((ends, halt, status_for(&report)), (ends, halt, status))?;
-        same((status, status.code()), (status, code))?;
+        let told = status_of(rt.alloc(), &ends, halt)?;
+        same((ends, halt, told, told.code()), (ends, halt, status, code))?;
     }
     Ok(())
 }

@@ -55,18 +55,43 @@ fn fails<R: Threads + Sync + AllocGlobal>(
 ) -> Result<bool, Fail> {
     let flaw = calls.nth(number);
     let mut disk = flawed(rt.alloc(), &[flaw])?;
-    let (text, status) = run_over(rt, story, &mut disk)?;
-    if count_faults(&disk) == 0 {
-        same((flaw, text.as_slice()), (flaw, story.text))?;
-        same((flaw, status), (flaw, Status::Done))?;
-        return Ok(false);
+    fails_over(rt, story, flaw, calls.last_lines(), &mut disk)
+}
+
+/// The same over this disk, which has that flaw.
+fn fails_over<R: Threads + Sync + AllocGlobal>(
+    rt: &R,
+    story: &Story<'_>,
+    flaw: Flaw,
+    last: &[u8],
+    disk: &mut MemDisk,
+) -> Result<bool, Fail> {
+    let (text, status) = run_over(rt, story, disk)?;
+    let faults = count_faults(disk);
+    expect_fault(story, flaw, last, faults, &text, status)?;
+    Ok(faults > 0)
+}
+
+/// Compares what a story wrote, and its status, where so many calls of its disk failed.
+fn expect_fault(
+    story: &Story<'_>,
+    flaw: Flaw,
+    last: &[u8],
+    faults: u64,
+    text: &[u8],
+    status: Status,
+) -> Result<(), Fail> {
+    if faults == 0 {
+        return same((flaw, text, status), (flaw, story.text, Status::Done));
     }
-    same((flaw, count_faults(&disk)), (flaw, 1))?;
-    let front = text.as_slice().strip_suffix(calls.last_lines());
-    let is_front = front.is_some_and(|front| story.text.starts_with(front));
-    same((flaw, is_front), (flaw, true))?;
-    same((flaw, status), (flaw, Status::DiskFault))?;
-    Ok(true)
+    let is_front = match text.strip_suffix(last) {
+        Some(front) => story.text.starts_with(front),
+        None => false,
+    };
+    same(
+        (flaw, faults, is_front, status),
+        (flaw, 1, true, Status::DiskFault),
+    )
 }
 
 /// Lets each call of a kind fail in turn, and answers how many there are.
@@ -97,20 +122,30 @@ fn fail_each_read<R: Threads + Sync + AllocGlobal>(
     Ok(reads)
 }
 
+/// Runs a story over a disk without flaws. Answers how it ended, and how many writes and lends there were.
+fn run_without_flaws<R: Threads + Sync + AllocGlobal>(
+    rt: &R,
+    story: &Story<'_>,
+) -> Result<(Status, u64, u64), Fail> {
+    let mut disk = MemDisk::new(rt.alloc());
+    let (_text, status) = run_over(rt, story, &mut disk)?;
+    Ok((status, disk.writes, disk.lends))
+}
+
 /// Lets each call of the disk fail in turn. There are so many writes, lends and reads.
 fn expect_each<R: Threads + Sync + AllocGlobal>(
     rt: &R,
     story: &Story<'_>,
     wanted: (u64, u64, u64),
 ) -> Result<(), Fail> {
-    let mut disk = flawed(rt.alloc(), &[])?;
-    let (_text, status) = run_over(rt, story, &mut disk)?;
-    same((wanted, status), (wanted, Status::Done))?;
+    let without = run_without_flaws(rt, story)?;
     let writes = fail_each(rt, story, Calls::Writes)?;
     let lends = fail_each(rt, story, Calls::Lends)?;
     let reads = fail_each_read(rt, story, lends)?;
-    same((disk.writes, disk.lends), (writes, lends))?;
-    same((writes, lends, reads), wanted)
+    same(
+        (without, (writes, lends, reads)),
+        ((Status::Done, writes, lends), wanted),
+    )
 }
 
 #[test]

@@ -1,7 +1,8 @@
 use super::given::{AGAIN, Flaw, LEAVING, RETURN, Story, TWO, flawed, run_over};
 use crate::status::Status;
+use melt_io::MemDisk;
 use melt_same::same;
-use std::alloc::Global;
+use std::alloc::{AllocError, Global};
 use std::test::Fail;
 use std::thread::Threads;
 
@@ -72,18 +73,24 @@ const fn passes<'a>(flaws: &'a [Flaw], replies: u8, last: &'a [u8]) -> Ending<'a
 }
 
 /// What a story writes up to so many replies of its first thread, and then other last lines.
-fn cut_text(alloc: Global, story: &Story<'_>, replies: u8, last: &[u8]) -> Result<Vec<u8>, Fail> {
+fn cut_text(
+    alloc: Global,
+    story: &Story<'_>,
+    replies: u8,
+    last: &[u8],
+) -> Result<Vec<u8>, AllocError> {
     let lines = usize::from(replies) + 1;
     let mut text = Vec::new(alloc);
-    for line in story
-        .text
-        .split_inclusive(|byte| *byte == b'\n')
-        .take(lines)
-    {
-        text.extend_from_slice(line)?;
-    }
-    text.extend_from_slice(last)?;
+    cut_into(&mut text, story.text, lines, last)?;
     Ok(text)
+}
+
+/// Adds so many lines of a text, and then other last lines.
+fn cut_into(cut: &mut Vec<u8>, text: &[u8], lines: usize, last: &[u8]) -> Result<(), AllocError> {
+    for line in text.split_inclusive(|byte| *byte == b'\n').take(lines) {
+        cut.extend_from_slice(line)?;
+    }
+    cut.extend_from_slice(last)
 }
 
 fn expect_endings<R: Threads + Sync + AllocGlobal>(
@@ -93,13 +100,35 @@ fn expect_endings<R: Threads + Sync + AllocGlobal>(
 ) -> Result<(), Fail> {
     for ending in endings {
         let mut disk = flawed(rt.alloc(), ending.flaws)?;
-        let (text, status) = run_over(rt, story, &mut disk)?;
-        let wanted = cut_text(rt.alloc(), story, ending.replies, ending.last)?;
-        let flaws = ending.flaws;
-        same((flaws, text.as_slice()), (flaws, wanted.as_slice()))?;
-        same((flaws, status), (flaws, ending.status))?;
+        expect_ending(rt, story, ending, &mut disk)?;
     }
     Ok(())
+}
+
+/// Runs a story over a disk with the flaws of this ending.
+fn expect_ending<R: Threads + Sync + AllocGlobal>(
+    rt: &R,
+    story: &Story<'_>,
+    ending: &Ending<'_>,
+    disk: &mut MemDisk,
+) -> Result<(), Fail> {
+    let (text, status) = run_over(rt, story, disk)?;
+    expect_text(rt.alloc(), story, ending, &text, status)
+}
+
+/// Compares what a story wrote, and its status.
+fn expect_text(
+    alloc: Global,
+    story: &Story<'_>,
+    ending: &Ending<'_>,
+    text: &[u8],
+    status: Status,
+) -> Result<(), Fail> {
+    let wanted = cut_text(alloc, story, ending.replies, ending.last)?;
+    same(
+        (ending.flaws, text, status),
+        (ending.flaws, wanted.as_slice(), ending.status),
+    )
 }
 
 #[test]

@@ -39,10 +39,15 @@ fn add_flaw(disk: &mut MemDisk, flaw: Flaw) -> Result<(), Fail> {
 /// A disk in memory with flaws.
 pub(super) fn flawed(alloc: Global, flaws: &[Flaw]) -> Result<MemDisk, Fail> {
     let mut disk = MemDisk::new(alloc);
-    for flaw in flaws {
-        add_flaw(&mut disk, *flaw)?;
-    }
+    add_flaws(&mut disk, flaws)?;
     Ok(disk)
+}
+
+fn add_flaws(disk: &mut MemDisk, flaws: &[Flaw]) -> Result<(), Fail> {
+    for flaw in flaws {
+        add_flaw(disk, *flaw)?;
+    }
+    Ok(())
 }
 
 /// Runs a story over a disk, and answers what it wrote and how it ended.

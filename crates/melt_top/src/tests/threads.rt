@@ -1,5 +1,4 @@
-use super::{TRACE, written};
-use melt_same::same;
+use super::{TRACE, expect_same_text, expect_text};
 use std::test::Fail;
 
 #[test]
@@ -18,26 +17,23 @@ fn run_writes_each_reply(rt: HostRuntime) -> Result<(), Fail> {
         ),
     ];
     for (trace, text) in cases {
-        same(written(&rt, "run", trace)?.as_slice(), text)?;
+        expect_text(&rt, "run", trace, text)?;
     }
     Ok(())
 }
 
 #[test]
 fn run_writes_sums_and_a_table(rt: HostRuntime) -> Result<(), Fail> {
-    let text =
-        b"thread 0\nreplies 2\nsum 0\nend done\nnumber,phase,held,live,bodies,stubs,end\n".as_slice();
-    same(written(&rt, "run --table --quiet", TRACE)?.as_slice(), text)
+    let text = b"thread 0\nreplies 2\nsum 0\nend done\nnumber,phase,held,live,bodies,stubs,end\n";
+    expect_text(&rt, "run --table --quiet", TRACE, text)
 }
 
 /// Threads that share no object have the same replies in any order.
 #[test]
 fn threads_are_not_seen_in_sums(rt: HostRuntime) -> Result<(), Fail> {
     let made = "gen --kind list --seed 7 --size 200 --threads 4";
-    let trace = written(&rt, made, b"")?;
-    let ordered = written(&rt, "step --quiet", &trace)?;
-    let running = written(&rt, "run --quiet", &trace)?;
-    let silent = written(&rt, "run --quiet --every 100 --heap=16384", &trace)?;
-    same(running.as_slice(), ordered.as_slice())?;
-    same(silent.as_slice(), ordered.as_slice())
+    for line in ["run --quiet", "run --quiet --every 100 --heap=16384"] {
+        expect_same_text(&rt, made, "step --quiet", line)?;
+    }
+    Ok(())
 }
