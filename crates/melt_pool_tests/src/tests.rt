@@ -207,18 +207,35 @@ struct Wanted<'a> {
 }
 
 /// Compares the replies that a thread has got, and what it does next.
-fn expect(
-    mutator: &mut Mutator<Worker<'_, NoDisk>>,
-    replies: &[Reply],
-    mode: Mode,
-) -> Result<(), Fail> {
+fn expect(mutator: &mut Mutator<Worker<'_, NoDisk>>, wanted: &Wanted<'_>) -> Result<(), Fail> {
     let mut worker = mutator.take_reader().ok_or("no worker")?;
     let state = worker.state.take().ok_or("no thread")?;
-    same(state.replies.as_slice(), replies)?;
-    same(state.mode, mode)
+    same(
+        (state.replies.as_slice(), state.mode),
+        (wanted.replies, wanted.mode),
+    )
 }
 
-/// Runs two threads through an epoch, and compares what they come to. Answers the words in use after it, and how many
+/// Compares what threads came to, and what the gate was told of them.
+fn expect_all(
+    mutators: &mut [Mutator<Worker<'_, NoDisk>>],
+    gate: &Counts,
+    wanted: &[Wanted<'_>; 2],
+) -> Result<(), Fail> {
+    for (mutator, wanted) in mutators.iter_mut().zip(wanted) {
+        expect(mutator, wanted)?;
+    }
+    let told = [
+        gate.told[0].load(Ordering::SeqCst),
+        gate.told[1].load(Ordering::SeqCst),
+    ];
+    same(
+        (told, gate.out_of_turn.load(Ordering::SeqCst)),
+        ([wanted[0].told, wanted[1].told], 0),
+    )
+}
+
+/// Runs two threads through an epoch, and compares what they come to, how many words are in use after it, and how many
 /// the first call lacked. The gate was told of the call that is made first.
 fn expect_epoch<R: Abort + Threads + Sync>(
     rt: &R,
@@ -226,9 +243,9 @@ fn expect_epoch<R: Abort + Threads + Sync>(
     mutators: &mut [Mutator<Worker<'_, NoDisk>>],
     every: u32,
     first: Option<u32>,
-    wanted: [Wanted<'_>; 2],
-) -> Result<(u32, Option<u32>), Fail>
-    requires two { length mutators.old ≡ 2 }
+    wanted: &[Wanted<'_>; 2],
+    words: (u32, Option<u32>),
+) -> Result<(), Fail>
     requires threads { map (λ m. m.thread) mutators.old ≡ 0 ∷ 1 ∷ [] }
     requires mutators { AllMayStart (λ _. Some []) mutators.old }
     requires new { (script : Script) × (script.globals ≡ 1) × AllNew script mutators.old }
@@ -237,43 +254,37 @@ fn expect_epoch<R: Abort + Threads + Sync>(
     let heap = Heap::new(alloc, 64, 1, 1, false)?;
     let gate = Counts::new(u64::from(first.is_some()));
     let came = run_on(rt, alloc, heap, mutators, every, first, &gate);
-    for t in 0..2 {
-        expect(&mut mutators[t], wanted[t].replies, wanted[t].mode)?;
-        same(gate.told[t].load(Ordering::SeqCst), wanted[t].told)?;
-    }
-    same(gate.out_of_turn.load(Ordering::SeqCst), 0)?;
-    Ok(came)
+    same(came, words)?;
+    expect_all(mutators, &gate, wanted)
 }
 
-/// Runs the two threads of a trace of one global through an epoch, and compares what they come to. Answers the words in
-/// use after it.
+/// Runs the two threads of a trace of one global through an epoch, and compares what they come to, and the words in use
+/// after it.
 fn expect_both<R: Abort + Threads + Sync>(
     rt: &R,
     alloc: Global,
-    text: &[u8],
+    trace: &Trace,
     every: u32,
-    wanted: [Wanted<'_>; 2],
-) -> Result<u32, Fail> {
-    let trace = parse(alloc, text)?;
+    wanted: &[Wanted<'_>; 2],
+    used: u32,
+) -> Result<(), Fail> {
     same((trace.threads(), trace.globals()), (2, 1))?;
-    let mut mutators = two_mutators(rt, alloc, &trace);
-    let (used, lacked) = expect_epoch(rt, alloc, &mut mutators, every, None, wanted)?;
-    same(lacked, None)?;
-    Ok(used)
+    let mut mutators = two_mutators(rt, alloc, trace);
+    expect_epoch(rt, alloc, &mut mutators, every, None, wanted, (used, None))
 }
 
-/// The same, where the call of the first thread is made first, which was refused before. Answers also how many words it
-/// lacked.
+/// The same, where the call of the first thread is made first, which was refused before. Compares also how many words
+/// it lacked.
 fn expect_first<R: Abort + Threads + Sync>(
     rt: &R,
     alloc: Global,
-    text: &[u8],
-    wanted: [Wanted<'_>; 2],
-) -> Result<(u32, Option<u32>), Fail> {
-    let trace = parse(alloc, text)?;
+    trace: &Trace,
+    wanted: &[Wanted<'_>; 2],
+    words: (u32, Option<u32>),
+) -> Result<(), Fail> {
     same((trace.threads(), trace.globals()), (2, 1))?;
-    let mut mutators = first_refused(rt, alloc, &trace);
-    expect_epoch(rt, alloc, &mut mutators, 0, Some(0), wanted)
+    let mut mutators = first_refused(rt, alloc, trace);
+    expect_epoch(rt, alloc, &mut mutators, 0, Some(0), wanted, words)
 }
 
 #[test]
@@ -292,8 +303,8 @@ fn two_threads_go_through_an_epoch(rt: HostRuntime) -> Result<(), Fail> {
         mode: Mode::Collecting,
         told: 4,
     };
-    let used = expect_both(&rt, rt.alloc(), text, 0, [first, second])?;
-    same(used, 6)
+    let trace = parse(rt.alloc(), text)?;
+    expect_both(&rt, rt.alloc(), &trace, 0, &[first, second], 6)
 }
 
 #[test]
@@ -310,8 +321,8 @@ fn a_silent_collection_is_due_after_every_second_reply(rt: HostRuntime) -> Resul
         mode: Mode::Ended(ThreadEnd::Done),
         told: 0,
     };
-    let used = expect_both(&rt, rt.alloc(), text, 2, [first, second])?;
-    same(used, 3)
+    let trace = parse(rt.alloc(), text)?;
+    expect_both(&rt, rt.alloc(), &trace, 2, &[first, second], 3)
 }
 
 #[test]
@@ -328,8 +339,8 @@ fn all_go_on_after_a_first_call_that_is_answered(rt: HostRuntime) -> Result<(), 
         mode: Mode::Ended(ThreadEnd::Done),
         told: 1,
     };
-    let (used, lacked) = expect_first(&rt, rt.alloc(), text, [first, second])?;
-    same((used, lacked), (6, None))
+    let trace = parse(rt.alloc(), text)?;
+    expect_first(&rt, rt.alloc(), &trace, &[first, second], (6, None))
 }
 
 #[test]
@@ -346,6 +357,6 @@ fn no_other_runs_after_a_first_call_that_lacks_words(rt: HostRuntime) -> Result<
         mode: Mode::Running,
         told: 0,
     };
-    let (used, lacked) = expect_first(&rt, rt.alloc(), text, [first, second])?;
-    same((used, lacked), (64, Some(82)))
+    let trace = parse(rt.alloc(), text)?;
+    expect_first(&rt, rt.alloc(), &trace, &[first, second], (64, Some(82)))
 }

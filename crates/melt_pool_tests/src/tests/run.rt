@@ -68,38 +68,53 @@ fn leaving() -> Config
     }
 }
 
-/// Runs a trace by threads, over a disk that does not fail.
+/// Runs a trace by threads, over a disk that does not fail. Answers what is reported, and whether the heap was lost.
 fn run_over<X: Threads + Sync, G: Gate + Sync>(
     rt: &X,
     alloc: Global,
     text: &[u8],
     gate: &G,
-) -> Result<(Report, Option<Heap>), Fail> {
+) -> Result<(Report, bool), Fail> {
     let trace = parse(alloc, text)?;
     let config = leaving();
     let mut disk = SteadyDisk::new(alloc);
     let mut space = StaleSpace::new(&mut disk, config.disk);
-    Ok(run_threads(rt, alloc, &trace, config, &mut space, gate)?)
+    let (report, left) = run_threads(rt, alloc, &trace, config, &mut space, gate)?;
+    Ok((report, left.is_none()))
 }
 
-/// Compares what the threads of a run were told, and that each of them came to its end.
-fn expect_replies(report: &Report, wanted: &[&[Reply]]) -> Result<(), Fail> {
+/// Compares what the threads of a run were told, and that each of them came to its end, and how many Bodies the
+/// collection wrote that wrote most.
+fn same_replies(report: &Report, wanted: &[&[Reply]], bodies: Option<u32>) -> Result<(), Fail> {
     same(report.threads.items.len(), wanted.len())?;
     for (thread, replies) in report.threads.items.iter().zip(wanted) {
-        same(thread.replies.items.as_slice(), *replies)?;
-        same(thread.end, ThreadEnd::Done)?;
+        let told = thread.replies.items.as_slice();
+        same((told, thread.end), (*replies, ThreadEnd::Done))?;
     }
-    same(report.halt, None)
+    let most = report.journal.items.iter().map(|it| it.bodies).max();
+    same((report.halt, most), (None, bodies))
+}
+
+/// Runs a trace by threads that meet before their operation of this number, and compares what they are told.
+fn expect_run<X: Threads + Sync>(
+    rt: &X,
+    alloc: Global,
+    text: &[u8],
+    at: u64,
+    wanted: &[&[Reply]],
+    bodies: Option<u32>,
+) -> Result<(), Fail> {
+    let gate = Meeting::new(at);
+    let (report, lost) = run_over(rt, alloc, text, &gate)?;
+    same((lost, gate.missed.load(Ordering::SeqCst)), (false, 0))?;
+    same_replies(&report, wanted, bodies)
 }
 
 #[test]
 fn two_threads_are_in_one_epoch_at_once(rt: HostRuntime) -> Result<(), Fail> {
     let text = b"melt 1\nthreads 2\nglobals 0\nthread 0\ndrop 0\ndone\nthread 1\ndrop 0\ndone\n";
-    let gate = Meeting::new(1);
-    let (report, left) = run_over(&rt, rt.alloc(), text, &gate)?;
-    expect_replies(&report, &[&[Reply::Done], &[Reply::Done]])?;
-    same(left.is_some(), true)?;
-    same(gate.missed.load(Ordering::SeqCst), 0)
+    let wanted = [[Reply::Done].as_slice(), [Reply::Done].as_slice()];
+    expect_run(&rt, rt.alloc(), text, 1, &wanted, None)
 }
 
 #[test]
@@ -110,9 +125,6 @@ fn objects_of_two_threads_move_to_disk_and_come_back(rt: HostRuntime) -> Result<
         thread 1\nnew 0 0 1\nput 0 0 8\ngstore 1 0\ndrop 0\n\
         collect\ncollect\ncollect\ngload 0 1\nget 0 0\ndone\n";
     let done = Reply::Done;
-    // Both have dropped their object before the first collection, so that one finds both stale.
-    let gate = Meeting::new(5);
-    let (report, left) = run_over(&rt, rt.alloc(), text, &gate)?;
     let first = [
         done,
         done,
@@ -135,9 +147,6 @@ fn objects_of_two_threads_move_to_disk_and_come_back(rt: HostRuntime) -> Result<
         Reply::Ref,
         Reply::Num(8),
     ];
-    expect_replies(&report, &[&first, &second])?;
-    same(left.is_some(), true)?;
-    same(gate.missed.load(Ordering::SeqCst), 0)?;
-    let bodies = report.journal.items.iter().map(|it| it.bodies).max();
-    same(bodies, Some(2))
+    // Both have dropped their object before the first collection, so that one finds both stale.
+    expect_run(&rt, rt.alloc(), text, 5, &[&first, &second], Some(2))
 }
