@@ -2,40 +2,18 @@ ghost use Rattle.std.specs.Prelude.{◌≤◌};
 ghost use Rattle.melt_model.specs.Config.{InRanges};
 
 use melt_disk::StaleSpace;
-use melt_io::{MemDisk, StaleDisk, SteadyDisk};
+use melt_io::{StaleDisk, SteadyDisk};
 use melt_model::{Config, Halt, Journal, Phase, Reply, Report, ThreadEnd};
 use melt_same::same;
-use melt_scion::Heap;
 use melt_step::run_schedule;
 use melt_trace::parse;
 use std::alloc::Global;
 use std::fmt::Debug;
 use std::test::Fail;
 
-/// A collection of a run over a disk without homes. Of the words that are in use after it so many are those of objects
-/// that registers hold.
-pub(super) const fn copied(phase: Phase, held: u32, live: u32) -> Journal {
-    Journal {
-        phase,
-        held,
-        live,
-        bodies: 0,
-        stubs: 0,
-        end: 1,
-    }
-}
-
-/// A Move after which nothing is in use: it wrote so many Bodies, and the homes end before `end`.
-pub(super) const fn emptied(bodies: u32, end: u32) -> Journal {
-    Journal {
-        phase: Phase::Move,
-        held: 0,
-        live: 0,
-        bodies,
-        stubs: 0,
-        end,
-    }
-}
+/// A collection, in the order of a line of a journal: its phase, the words of objects that registers hold, the words of
+/// all objects, how many Bodies and how many Stubs were written, and where the homes end then.
+pub(super) type Collection = (Phase, [u32; 5]);
 
 /// The numbers of a run over so many words, in which objects leave once three quarters of them are in use. A silent
 /// collection comes after each operation whose number is a multiple of `every`, which is 0 for none.
@@ -77,47 +55,82 @@ pub(super) fn leaving(forward: u32, disk: u32) -> Config
 #[derive(Clone, Copy)]
 pub(super) struct Wanted<'a> {
     pub threads: &'a [(&'a [Reply], ThreadEnd)],
-    pub journal: &'a [Journal],
+    pub journal: &'a [Collection],
     pub halt: Option<Halt>,
 }
 
-/// Runs a trace over a disk.
+/// Runs a trace over a disk. Answers what is reported, and whether the heap was lost.
 pub(super) fn run_over<D: StaleDisk>(
     alloc: Global,
     text: &[u8],
     config: Config,
     disk: &mut D,
-) -> Result<(Report, Option<Heap>), Fail>
+    stored: bool,
+) -> Result<(Report, bool), Fail>
     requires ranges { InRanges config }
 {
     let trace = parse(alloc, text)?;
     let mut space = StaleSpace::new(disk, config.disk);
-    Ok(run_schedule(alloc, &trace, config, &mut space, true)?)
+    let (report, left) = run_schedule(alloc, &trace, config, &mut space, stored)?;
+    Ok((report, left.is_none()))
 }
 
-/// Compares what a run answered, and shows it beside what tells the run from others of its test. The heap is lost where the
-/// disk failed, and nowhere else.
-pub(super) fn compare<W: Copy + PartialEq + Debug + Drop>(
+/// Compares what the threads of a run were told and how they ended, and shows it beside what tells the run from others
+/// of its test.
+pub(super) fn same_threads<W: Copy + PartialEq + Debug + Drop>(
     run: W,
     report: &Report,
-    left: &Option<Heap>,
+    wanted: &[(&[Reply], ThreadEnd)],
+) -> Result<(), Fail> {
+    let threads = report.threads.items.as_slice();
+    same((run, threads.len()), (run, wanted.len()))?;
+    for (thread, (replies, end)) in threads.iter().zip(wanted) {
+        let told = thread.replies.items.as_slice();
+        same((run, told, thread.end), (run, *replies, *end))?;
+    }
+    Ok(())
+}
+
+/// Compares the collections of a run.
+fn same_journal<W: Copy + PartialEq + Debug + Drop>(
+    run: W,
+    journal: &[Journal],
+    wanted: &[Collection],
+) -> Result<(), Fail> {
+    same((run, journal.len()), (run, wanted.len()))?;
+    for (it, wanted) in journal.iter().zip(wanted) {
+        let numbers = [it.held, it.live, it.bodies, it.stubs, it.end];
+        same((run, (it.phase, numbers)), (run, *wanted))?;
+    }
+    Ok(())
+}
+
+/// Compares what a run answered. The heap is lost where the disk failed, and nowhere else.
+fn compare<W: Copy + PartialEq + Debug + Drop>(
+    run: W,
+    report: &Report,
+    lost: bool,
     wanted: &Wanted<'_>,
 ) -> Result<(), Fail> {
-    same(
-        (run, report.threads.items.len()),
-        (run, wanted.threads.len()),
-    )?;
-    for (thread, (replies, end)) in report.threads.items.iter().zip(wanted.threads) {
-        same((run, thread.replies.items.as_slice()), (run, *replies))?;
-        same((run, thread.end), (run, *end))?;
-    }
-    same(
-        (run, report.journal.items.as_slice()),
-        (run, wanted.journal),
-    )?;
-    same((run, report.halt), (run, wanted.halt))?;
-    let lost = wanted.halt == Some(Halt::DiskFault);
-    same((run, left.is_none()), (run, lost))
+    same_threads(run, report, wanted.threads)?;
+    same_journal(run, &report.journal.items, wanted.journal)?;
+    let fault = wanted.halt == Some(Halt::DiskFault);
+    same((run, report.halt, lost), (run, wanted.halt, fault))
+}
+
+/// Runs a trace over a disk, and compares what it answers. Shows it beside what tells the run from others of its test.
+pub(super) fn expect_over<D: StaleDisk, W: Copy + PartialEq + Debug + Drop>(
+    alloc: Global,
+    run: W,
+    text: &[u8],
+    config: Config,
+    disk: &mut D,
+    wanted: &Wanted<'_>,
+) -> Result<(), Fail>
+    requires ranges { InRanges config }
+{
+    let (report, lost) = run_over(alloc, text, config, disk, true)?;
+    compare(run, &report, lost, wanted)
 }
 
 /// Runs a trace over a disk that does not fail, and compares what it answers.
@@ -130,6 +143,5 @@ pub(super) fn expect(
     requires ranges { InRanges config }
 {
     let mut disk = SteadyDisk::new(alloc);
-    let (report, left) = run_over(alloc, text, config, &mut disk)?;
-    compare(config, &report, &left, wanted)
+    expect_over(alloc, config, text, config, &mut disk, wanted)
 }

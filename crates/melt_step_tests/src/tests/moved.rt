@@ -1,7 +1,7 @@
-use super::given::{Wanted, compare, copied, emptied, expect, leaving, run_over};
+use super::given::{Collection, Wanted, expect, expect_over, leaving};
 use melt_io::SteadyDisk;
 use melt_model::Reply::{Done, No, Num, Ref, Yes};
-use melt_model::{Halt, Journal, Phase, Reply, ThreadEnd};
+use melt_model::{Halt, Phase, Reply, ThreadEnd};
 use melt_same::same;
 use std::test::Fail;
 
@@ -30,47 +30,12 @@ pub(super) const SAME_HOME_REPLIES: [Reply; 18] = [
 ];
 
 /// The collections of a run in which an object of three words leaves, comes back and leaves again.
-pub(super) const JOURNAL_OF_THREE: [Journal; 5] = [
-    Journal {
-        phase: Phase::Inactive,
-        held: 0,
-        live: 3,
-        bodies: 0,
-        stubs: 0,
-        end: 1,
-    },
-    Journal {
-        phase: Phase::Mark,
-        held: 0,
-        live: 3,
-        bodies: 0,
-        stubs: 0,
-        end: 1,
-    },
-    Journal {
-        phase: Phase::Move,
-        held: 0,
-        live: 0,
-        bodies: 1,
-        stubs: 0,
-        end: 4,
-    },
-    Journal {
-        phase: Phase::Move,
-        held: 0,
-        live: 3,
-        bodies: 0,
-        stubs: 1,
-        end: 4,
-    },
-    Journal {
-        phase: Phase::Move,
-        held: 0,
-        live: 0,
-        bodies: 1,
-        stubs: 0,
-        end: 4,
-    },
+pub(super) const JOURNAL_OF_THREE: [Collection; 5] = [
+    (Phase::Inactive, [0, 3, 0, 0, 1]),
+    (Phase::Mark, [0, 3, 0, 0, 1]),
+    (Phase::Move, [0, 0, 1, 0, 4]),
+    (Phase::Move, [0, 3, 0, 1, 4]),
+    (Phase::Move, [0, 0, 1, 0, 4]),
 ];
 
 /// The home of an object that came back is a Stub after the next collection, and names the object still.
@@ -94,153 +59,154 @@ pub(super) const TWO_RETURN_REPLIES: [Reply; 10] = [
 ];
 
 /// The collections where there is a word for the forwarding of one object only: the last one makes room for the other.
-pub(super) const TWO_RETURN_JOURNAL: [Journal; 4] = [
-    Journal {
-        phase: Phase::Inactive,
-        held: 0,
-        live: 5,
-        bodies: 0,
-        stubs: 0,
-        end: 1,
-    },
-    Journal {
-        phase: Phase::Mark,
-        held: 0,
-        live: 5,
-        bodies: 0,
-        stubs: 0,
-        end: 1,
-    },
-    Journal {
-        phase: Phase::Move,
-        held: 0,
-        live: 0,
-        bodies: 2,
-        stubs: 0,
-        end: 6,
-    },
-    Journal {
-        phase: Phase::Move,
-        held: 2,
-        live: 2,
-        bodies: 0,
-        stubs: 1,
-        end: 6,
-    },
+pub(super) const TWO_RETURN_JOURNAL: [Collection; 4] = [
+    (Phase::Inactive, [0, 5, 0, 0, 1]),
+    (Phase::Mark, [0, 5, 0, 0, 1]),
+    (Phase::Move, [0, 0, 2, 0, 6]),
+    (Phase::Move, [2, 2, 0, 1, 6]),
 ];
 
 /// An object of 8 words leaves.
 const EIGHT_WORDS: &[u8] =
     b"melt 1\nthreads 1\nglobals 1\nthread 0\nnew 0 0 6\ngstore 0 0\ndrop 0\ncollect\ncollect\ncollect\ndone\n";
 
+const LEAVES_AND_RETURNS: Wanted<'static> = Wanted {
+    threads: &[(&MOVE_AND_RETURN_REPLIES, ThreadEnd::Done)],
+    journal: &[
+        (Phase::Inactive, [0, 3, 0, 0, 1]),
+        (Phase::Mark, [0, 3, 0, 0, 1]),
+        (Phase::Move, [0, 0, 1, 0, 4]),
+    ],
+    halt: None,
+};
+
 #[test]
 fn an_object_leaves_and_comes_back(rt: HostRuntime) -> Result<(), Fail> {
     let alloc = rt.alloc();
     let mut disk = SteadyDisk::new(alloc);
     let config = leaving(16, 1024);
-    let (report, left) = run_over(alloc, MOVE_AND_RETURN, config, &mut disk)?;
-    let wanted = Wanted {
-        threads: &[(&MOVE_AND_RETURN_REPLIES, ThreadEnd::Done)],
-        journal: &JOURNAL_OF_THREE[..3],
-        halt: None,
-    };
-    compare(config, &report, &left, &wanted)?;
-    same(disk.image.as_slice(), [0, 4_295_032_833, 0, 7].as_slice())?;
-    same(disk.writes, 1)
+    expect_over(
+        alloc,
+        config,
+        MOVE_AND_RETURN,
+        config,
+        &mut disk,
+        &LEAVES_AND_RETURNS,
+    )?;
+    let image = [0, 4_295_032_833, 0, 7];
+    same((disk.image.as_slice(), disk.writes), (image.as_slice(), 1))
 }
+
+const LEAVES_AGAIN: Wanted<'static> = Wanted {
+    threads: &[(&SAME_HOME_REPLIES, ThreadEnd::Done)],
+    journal: &JOURNAL_OF_THREE,
+    halt: None,
+};
 
 #[test]
 fn an_object_that_leaves_again_has_the_same_home(rt: HostRuntime) -> Result<(), Fail> {
     let alloc = rt.alloc();
     let mut disk = SteadyDisk::new(alloc);
     let config = leaving(16, 1024);
-    let (report, left) = run_over(alloc, SAME_HOME, config, &mut disk)?;
-    let wanted = Wanted {
-        threads: &[(&SAME_HOME_REPLIES, ThreadEnd::Done)],
-        journal: &JOURNAL_OF_THREE,
-        halt: None,
-    };
-    compare(config, &report, &left, &wanted)?;
-    same(disk.image.as_slice(), [0, 4_295_032_833, 0, 10].as_slice())?;
-    same(disk.writes, 3)
+    expect_over(alloc, config, SAME_HOME, config, &mut disk, &LEAVES_AGAIN)?;
+    let image = [0, 4_295_032_833, 0, 10];
+    same((disk.image.as_slice(), disk.writes), (image.as_slice(), 3))
 }
+
+const BECOMES_STUB: Wanted<'static> = Wanted {
+    threads: &[(
+        &[
+            Done, Done, Done, Done, Done, Done, Done, Done, Ref, Done, Ref, Yes,
+        ],
+        ThreadEnd::Done,
+    )],
+    journal: &[
+        (Phase::Inactive, [0, 3, 0, 0, 1]),
+        (Phase::Mark, [0, 3, 0, 0, 1]),
+        (Phase::Move, [0, 0, 1, 0, 4]),
+        (Phase::Move, [3, 3, 0, 1, 4]),
+    ],
+    halt: None,
+};
 
 #[test]
 fn a_home_that_became_a_stub_names_the_same_object(rt: HostRuntime) -> Result<(), Fail> {
-    let replies = [
-        Done, Done, Done, Done, Done, Done, Done, Done, Ref, Done, Ref, Yes,
-    ];
-    let [first, second, third, ..] = JOURNAL_OF_THREE;
-    let settling = Journal {
-        phase: Phase::Move,
-        held: 3,
-        live: 3,
-        bodies: 0,
-        stubs: 1,
-        end: 4,
-    };
-    let wanted = Wanted {
-        threads: &[(&replies, ThreadEnd::Done)],
-        journal: &[first, second, third, settling],
-        halt: None,
-    };
-    expect(rt.alloc(), STUB, leaving(16, 1024), &wanted)
+    expect(rt.alloc(), STUB, leaving(16, 1024), &BECOMES_STUB)
 }
+
+const CYCLES_RETURN: Wanted<'static> = Wanted {
+    threads: &[(
+        &[
+            Done, Done, Done, Done, Done, Done, Done, Done, Done, Done, Done, Done, Done, Done,
+            Ref, Ref, Yes, Ref, Ref, Ref, Yes, No,
+        ],
+        ThreadEnd::Done,
+    )],
+    journal: &[
+        (Phase::Inactive, [0, 9, 0, 0, 1]),
+        (Phase::Mark, [0, 9, 0, 0, 1]),
+        (Phase::Move, [0, 0, 3, 0, 10]),
+    ],
+    halt: None,
+};
 
 #[test]
 fn cycles_come_back_as_they_were(rt: HostRuntime) -> Result<(), Fail> {
-    let mut replies = [Done; 22];
-    let told = [Ref, Ref, Yes, Ref, Ref, Ref, Yes, No];
-    replies[14..].copy_from_slice(&told);
-    let wanted = Wanted {
-        threads: &[(&replies, ThreadEnd::Done)],
-        journal: &[
-            copied(Phase::Inactive, 0, 9),
-            copied(Phase::Mark, 0, 9),
-            emptied(3, 10),
-        ],
-        halt: None,
-    };
-    expect(rt.alloc(), CYCLES, leaving(16, 1024), &wanted)
+    expect(rt.alloc(), CYCLES, leaving(16, 1024), &CYCLES_RETURN)
 }
+
+const ONE_FORWARDING_WORD: Wanted<'static> = Wanted {
+    threads: &[(&TWO_RETURN_REPLIES, ThreadEnd::Done)],
+    journal: &TWO_RETURN_JOURNAL,
+    halt: None,
+};
+
+const TWO_FORWARDING_WORDS: Wanted<'static> = Wanted {
+    threads: &[(&TWO_RETURN_REPLIES, ThreadEnd::Done)],
+    journal: &[
+        (Phase::Inactive, [0, 5, 0, 0, 1]),
+        (Phase::Mark, [0, 5, 0, 0, 1]),
+        (Phase::Move, [0, 0, 2, 0, 6]),
+    ],
+    halt: None,
+};
 
 #[test]
 fn a_collection_makes_room_for_forwarding_words(rt: HostRuntime) -> Result<(), Fail> {
-    let mut wanted = Wanted {
-        threads: &[(&TWO_RETURN_REPLIES, ThreadEnd::Done)],
-        journal: &TWO_RETURN_JOURNAL,
-        halt: None,
-    };
-    expect(rt.alloc(), TWO_RETURN, leaving(1, 1024), &wanted)?;
-    wanted.journal = &TWO_RETURN_JOURNAL[..3];
-    expect(rt.alloc(), TWO_RETURN, leaving(2, 1024), &wanted)
+    let alloc = rt.alloc();
+    expect(alloc, TWO_RETURN, leaving(1, 1024), &ONE_FORWARDING_WORD)?;
+    expect(alloc, TWO_RETURN, leaving(2, 1024), &TWO_FORWARDING_WORDS)
 }
 
-#[test]
-fn a_disk_without_room_halts_the_run(rt: HostRuntime) -> Result<(), Fail> {
-    let full = Halt::DiskFull {
+const HALTED: Wanted<'static> = Wanted {
+    threads: &[(&[Done; 5], ThreadEnd::Halted)],
+    journal: &[
+        (Phase::Inactive, [0, 8, 0, 0, 1]),
+        (Phase::Mark, [0, 8, 0, 0, 1]),
+    ],
+    halt: Some(Halt::DiskFull {
         end: 1,
         need: 8,
         limit: 8,
-    };
-    let wanted = Wanted {
-        threads: &[(&[Done; 5], ThreadEnd::Halted)],
-        journal: &[copied(Phase::Inactive, 0, 8), copied(Phase::Mark, 0, 8)],
-        halt: Some(full),
-    };
-    expect(rt.alloc(), EIGHT_WORDS, leaving(16, 8), &wanted)
+    }),
+};
+
+#[test]
+fn a_disk_without_room_halts_the_run(rt: HostRuntime) -> Result<(), Fail> {
+    expect(rt.alloc(), EIGHT_WORDS, leaving(16, 8), &HALTED)
 }
+
+const FILLED: Wanted<'static> = Wanted {
+    threads: &[(&[Done; 6], ThreadEnd::Done)],
+    journal: &[
+        (Phase::Inactive, [0, 8, 0, 0, 1]),
+        (Phase::Mark, [0, 8, 0, 0, 1]),
+        (Phase::Move, [0, 0, 1, 0, 9]),
+    ],
+    halt: None,
+};
 
 #[test]
 fn an_object_fills_the_disk(rt: HostRuntime) -> Result<(), Fail> {
-    let wanted = Wanted {
-        threads: &[(&[Done; 6], ThreadEnd::Done)],
-        journal: &[
-            copied(Phase::Inactive, 0, 8),
-            copied(Phase::Mark, 0, 8),
-            emptied(1, 9),
-        ],
-        halt: None,
-    };
-    expect(rt.alloc(), EIGHT_WORDS, leaving(16, 9), &wanted)
+    expect(rt.alloc(), EIGHT_WORDS, leaving(16, 9), &FILLED)
 }

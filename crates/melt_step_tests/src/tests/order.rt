@@ -1,10 +1,8 @@
-use super::given::{Wanted, copied, emptied, expect, leaving, run_over, usual};
-use melt_disk::StaleSpace;
+use super::given::{Wanted, expect, leaving, run_over, usual};
 use melt_io::SteadyDisk;
-use melt_model::{Act, Entry, Phase, Reply, Slot, ThreadEnd, Value};
+use melt_model::Reply::{Done, Null, Ref, Yes};
+use melt_model::{Act, Entry, Phase, Report, Slot, ThreadEnd, Value};
 use melt_same::same;
-use melt_step::run_schedule;
-use melt_trace::parse;
 use std::alloc::{AllocError, Global};
 use std::test::Fail;
 
@@ -65,118 +63,142 @@ fn with_lines(alloc: Global, lines: &str) -> Result<String, AllocError> {
     )
 }
 
-/// The thread of each entry that a run of such a trace stores. Its threads come to their ends.
-fn threads_of_entries(alloc: Global, lines: &str) -> Result<Vec<u8>, Fail> {
+/// Runs such a trace.
+fn run_lines(alloc: Global, lines: &str) -> Result<(Report, bool), Fail> {
     let text = with_lines(alloc, lines)?;
     let mut disk = SteadyDisk::new(alloc);
-    let (report, _) = run_over(alloc, text.as_bytes(), usual(16, 0), &mut disk)?;
+    run_over(alloc, text.as_bytes(), usual(16, 0), &mut disk, true)
+}
+
+/// Fails where a thread has not come to its end, or the entries that are stored are not those of these threads.
+fn same_entries(lines: &str, report: &Report, threads: &[u8]) -> Result<(), Fail> {
     for thread in &report.threads.items {
         same((lines, thread.end), (lines, ThreadEnd::Done))?;
     }
-    let mut threads = Vec::new(alloc);
-    for entry in &report.log.items {
-        threads.push(entry.thread)?;
-    }
-    Ok(threads)
-}
-
-/// A `new` of three words takes five events, a `gstore` and a `gload` two, and a `same` one. An entry comes with the last
-/// event of its operation.
-#[test]
-fn events_come_in_the_written_order(rt: HostRuntime) -> Result<(), Fail> {
-    let cases = [
-        ("order 0 4\norder 1 2\norder 0 3\n", [1, 0, 0, 1, 1]),
-        ("order 0 5\norder 1 2\norder 0 2\n", [0, 1, 0, 1, 1]),
-        ("order 0 6\norder 1 2\norder 0 3\n", [0, 1, 0, 1, 1]),
-        ("order 0 7\norder 1 2\n", [0, 0, 1, 1, 1]),
-        ("order 0 6\norder 1 1\norder 0 1\n", [0, 0, 1, 1, 1]),
-        ("order 0 6\norder 1 3\norder 0 1\n", [0, 1, 0, 1, 1]),
-        ("order 0 6\norder 1 4\norder 0 1\n", [0, 1, 1, 0, 1]),
-        ("order 0 6\norder 1 6\norder 0 1\n", [0, 1, 1, 0, 1]),
-        ("order 0 6\norder 1 7\norder 0 1\n", [0, 1, 1, 1, 0]),
-        // A line is dropped once its thread is at its end.
-        ("order 1 9\norder 0 1\n", [1, 1, 1, 0, 0]),
-        // The threads take turns.
-        ("", [1, 1, 0, 0, 1]),
-    ];
-    for (lines, want) in cases {
-        let threads = threads_of_entries(rt.alloc(), lines)?;
-        same((lines, threads.as_slice()), (lines, want.as_slice()))?;
+    let entries = report.log.items.as_slice();
+    same((lines, entries.len()), (lines, threads.len()))?;
+    for (k, (entry, thread)) in entries.iter().zip(threads).enumerate() {
+        same((lines, k, entry.thread), (lines, k, *thread))?;
     }
     Ok(())
 }
 
+/// Runs such a trace, and compares of which threads its entries are.
+fn expect_threads(alloc: Global, lines: &str, threads: &[u8]) -> Result<(), Fail> {
+    let (report, _lost) = run_lines(alloc, lines)?;
+    same_entries(lines, &report, threads)
+}
+
+/// Lines of events, and of which threads the entries are then. A `new` of three words takes five events, a `gstore` and
+/// a `gload` two, and a `same` one. An entry comes with the last event of its operation.
+const ORDERS: [(&str, [u8; 5]); 11] = [
+    ("order 0 4\norder 1 2\norder 0 3\n", [1, 0, 0, 1, 1]),
+    ("order 0 5\norder 1 2\norder 0 2\n", [0, 1, 0, 1, 1]),
+    ("order 0 6\norder 1 2\norder 0 3\n", [0, 1, 0, 1, 1]),
+    ("order 0 7\norder 1 2\n", [0, 0, 1, 1, 1]),
+    ("order 0 6\norder 1 1\norder 0 1\n", [0, 0, 1, 1, 1]),
+    ("order 0 6\norder 1 3\norder 0 1\n", [0, 1, 0, 1, 1]),
+    ("order 0 6\norder 1 4\norder 0 1\n", [0, 1, 1, 0, 1]),
+    ("order 0 6\norder 1 6\norder 0 1\n", [0, 1, 1, 0, 1]),
+    ("order 0 6\norder 1 7\norder 0 1\n", [0, 1, 1, 1, 0]),
+    // A line is dropped once its thread is at its end.
+    ("order 1 9\norder 0 1\n", [1, 1, 1, 0, 0]),
+    // The threads take turns.
+    ("", [1, 1, 0, 0, 1]),
+];
+
+#[test]
+fn events_come_in_the_written_order(rt: HostRuntime) -> Result<(), Fail> {
+    for (lines, threads) in &ORDERS {
+        expect_threads(rt.alloc(), lines, threads)?;
+    }
+    Ok(())
+}
+
+/// Runs the trace of `ORDERED`, and stores its entries or does not.
+fn run_ordered(alloc: Global, stored: bool) -> Result<(Report, bool), Fail> {
+    let mut disk = SteadyDisk::new(alloc);
+    run_over(alloc, ORDERED, usual(16, 0), &mut disk, stored)
+}
+
 #[test]
 fn entries_come_in_the_order_of_their_events(rt: HostRuntime) -> Result<(), Fail> {
-    let alloc = rt.alloc();
-    let mut disk = SteadyDisk::new(alloc);
-    let (report, _) = run_over(alloc, ORDERED, usual(16, 0), &mut disk)?;
+    let (report, _lost) = run_ordered(rt.alloc(), true)?;
     same(report.log.items.as_slice(), ENTRIES.as_slice())
+}
+
+/// Fails where another run of `ORDERED` tells its threads something else, or stored entries.
+fn expect_no_entries(alloc: Global, stored: &Report) -> Result<(), Fail> {
+    let (report, _lost) = run_ordered(alloc, false)?;
+    same_replies(&report, stored)
+}
+
+fn same_replies(report: &Report, stored: &Report) -> Result<(), Fail> {
+    same(report.log.items.len(), 0)?;
+    for (thread, told) in report.threads.items.iter().zip(&stored.threads.items) {
+        let replies = thread.replies.items.as_slice();
+        same(replies, told.replies.items.as_slice())?;
+    }
+    Ok(())
 }
 
 #[test]
 fn entries_are_stored_only_where_they_are_asked_for(rt: HostRuntime) -> Result<(), Fail> {
     let alloc = rt.alloc();
-    let config = usual(16, 0);
-    let mut disk = SteadyDisk::new(alloc);
-    let (stored, _) = run_over(alloc, ORDERED, config, &mut disk)?;
-    let trace = parse(alloc, ORDERED)?;
-    let mut other = SteadyDisk::new(alloc);
-    let mut space = StaleSpace::new(&mut other, config.disk);
-    let (report, _) = run_schedule(alloc, &trace, config, &mut space, false)?;
-    same(report.log.items.len(), 0)?;
-    for (thread, told) in report.threads.items.iter().zip(&stored.threads.items) {
-        same(
-            thread.replies.items.as_slice(),
-            told.replies.items.as_slice(),
-        )?;
-    }
-    Ok(())
+    let (stored, _lost) = run_ordered(alloc, true)?;
+    expect_no_entries(alloc, &stored)
 }
+
+const FOUND_AT_ITS_END: Wanted<'static> = Wanted {
+    threads: &[
+        (&[Done, Done, Done, Done, Done, Null], ThreadEnd::Done),
+        (&[Done], ThreadEnd::Done),
+    ],
+    journal: &[
+        (Phase::Inactive, [0, 2, 0, 0, 1]),
+        (Phase::Mark, [0, 2, 0, 0, 1]),
+    ],
+    halt: None,
+};
 
 #[test]
 fn a_load_answers_what_it_finds_at_its_end(rt: HostRuntime) -> Result<(), Fail> {
-    let mut replies = [Reply::Done; 6];
-    replies[5] = Reply::Null;
-    let wanted = Wanted {
-        threads: &[
-            (&replies, ThreadEnd::Done),
-            (&[Reply::Done], ThreadEnd::Done),
-        ],
-        journal: &[copied(Phase::Inactive, 0, 2), copied(Phase::Mark, 0, 2)],
-        halt: None,
-    };
-    expect(rt.alloc(), STORE_IN_LOAD, leaving(16, 1024), &wanted)
+    let config = leaving(16, 1024);
+    expect(rt.alloc(), STORE_IN_LOAD, config, &FOUND_AT_ITS_END)
 }
+
+const ONE_BACK: Wanted<'static> = Wanted {
+    threads: &[
+        (
+            &[Done, Done, Done, Done, Done, Done, Ref, Done],
+            ThreadEnd::Done,
+        ),
+        (&[Done, Ref, Ref, Yes], ThreadEnd::Done),
+    ],
+    journal: &[
+        (Phase::Inactive, [0, 2, 0, 0, 1]),
+        (Phase::Mark, [0, 2, 0, 0, 1]),
+        (Phase::Move, [0, 0, 1, 0, 3]),
+    ],
+    halt: None,
+};
 
 #[test]
 fn two_threads_get_one_object_back(rt: HostRuntime) -> Result<(), Fail> {
-    let mut replies = [Reply::Done; 8];
-    replies[6] = Reply::Ref;
-    let others = [Reply::Done, Reply::Ref, Reply::Ref, Reply::Yes];
-    let wanted = Wanted {
-        threads: &[(&replies, ThreadEnd::Done), (&others, ThreadEnd::Done)],
-        journal: &[
-            copied(Phase::Inactive, 0, 2),
-            copied(Phase::Mark, 0, 2),
-            emptied(1, 3),
-        ],
-        halt: None,
-    };
-    expect(rt.alloc(), RACING, leaving(16, 1024), &wanted)
+    expect(rt.alloc(), RACING, leaving(16, 1024), &ONE_BACK)
 }
+
+const ONE_LACKS_ROOM: Wanted<'static> = Wanted {
+    threads: &[
+        (&[Done, Done, Ref], ThreadEnd::Done),
+        (&[], ThreadEnd::OutOfHeap { held: 2, need: 15 }),
+        (&[Done], ThreadEnd::Done),
+    ],
+    journal: &[(Phase::Inactive, [2, 2, 0, 0, 1])],
+    halt: None,
+};
 
 #[test]
 fn a_thread_that_lacks_room_ends_and_the_others_go_on(rt: HostRuntime) -> Result<(), Fail> {
-    let end = ThreadEnd::OutOfHeap { held: 2, need: 15 };
-    let wanted = Wanted {
-        threads: &[
-            (&[Reply::Done, Reply::Done, Reply::Ref], ThreadEnd::Done),
-            (&[], end),
-            (&[Reply::Done], ThreadEnd::Done),
-        ],
-        journal: &[copied(Phase::Inactive, 2, 2)],
-        halt: None,
-    };
-    expect(rt.alloc(), LACKING, usual(16, 0), &wanted)
+    expect(rt.alloc(), LACKING, usual(16, 0), &ONE_LACKS_ROOM)
 }

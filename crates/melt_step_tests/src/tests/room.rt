@@ -1,5 +1,6 @@
-use super::given::{Wanted, copied, emptied, expect, leaving, usual};
-use melt_model::{Journal, Phase, Reply, ThreadEnd};
+use super::given::{Wanted, expect, leaving, usual};
+use melt_model::Reply::{Done, Nil, No, Null, Num, Range, Ref, Yes};
+use melt_model::{Phase, ThreadEnd};
 use std::test::Fail;
 
 const ROUND_TRIPS: &[u8] =
@@ -28,119 +29,122 @@ const FORCED: &[u8] =
 const MADE_AND_COMPARED: &[u8] =
     b"melt 1\nthreads 1\nglobals 0\nthread 0\nnew 0 1 0\nsame 0 0\ndone\n";
 
+const LOADED: Wanted<'static> = Wanted {
+    threads: &[(
+        &[
+            Done,
+            Done,
+            Done,
+            Ref,
+            Yes,
+            Done,
+            Num(7),
+            Null,
+            Done,
+            Ref,
+            No,
+            Ref,
+            Yes,
+            Done,
+            Done,
+            No,
+            Nil,
+            Range,
+            Range,
+        ],
+        ThreadEnd::Done,
+    )],
+    journal: &[],
+    halt: None,
+};
+
 #[test]
 fn what_was_stored_is_loaded(rt: HostRuntime) -> Result<(), Fail> {
-    let replies = [
-        Reply::Done,
-        Reply::Done,
-        Reply::Done,
-        Reply::Ref,
-        Reply::Yes,
-        Reply::Done,
-        Reply::Num(7),
-        Reply::Null,
-        Reply::Done,
-        Reply::Ref,
-        Reply::No,
-        Reply::Ref,
-        Reply::Yes,
-        Reply::Done,
-        Reply::Done,
-        Reply::No,
-        Reply::Nil,
-        Reply::Range,
-        Reply::Range,
-    ];
-    let wanted = Wanted {
-        threads: &[(&replies, ThreadEnd::Done)],
-        journal: &[],
-        halt: None,
-    };
-    expect(rt.alloc(), ROUND_TRIPS, usual(16, 0), &wanted)
+    expect(rt.alloc(), ROUND_TRIPS, usual(16, 0), &LOADED)
 }
+
+const FITS: Wanted<'static> = Wanted {
+    threads: &[(&[Done], ThreadEnd::Done)],
+    journal: &[],
+    halt: None,
+};
+
+const LACKS_ONE_WORD: Wanted<'static> = Wanted {
+    threads: &[(&[], ThreadEnd::OutOfHeap { held: 0, need: 126 })],
+    journal: &[(Phase::Inactive, [0, 0, 0, 0, 1])],
+    halt: None,
+};
 
 #[test]
 fn the_largest_object_fits_in_126_words(rt: HostRuntime) -> Result<(), Fail> {
-    let wanted = Wanted {
-        threads: &[(&[Reply::Done], ThreadEnd::Done)],
-        journal: &[],
-        halt: None,
-    };
-    expect(rt.alloc(), LARGEST, usual(126, 0), &wanted)?;
-    let end = ThreadEnd::OutOfHeap { held: 0, need: 126 };
-    let refused = Wanted {
-        threads: &[(&[], end)],
-        journal: &[copied(Phase::Inactive, 0, 0)],
-        halt: None,
-    };
-    expect(rt.alloc(), LARGEST, usual(125, 0), &refused)
+    let alloc = rt.alloc();
+    expect(alloc, LARGEST, usual(126, 0), &FITS)?;
+    expect(alloc, LARGEST, usual(125, 0), &LACKS_ONE_WORD)
 }
+
+const HOLDS_ALL: Wanted<'static> = Wanted {
+    threads: &[(&[Done], ThreadEnd::OutOfHeap { held: 126, need: 2 })],
+    journal: &[(Phase::Inactive, [126, 126, 0, 0, 1])],
+    halt: None,
+};
 
 #[test]
 fn what_a_register_holds_leaves_no_room(rt: HostRuntime) -> Result<(), Fail> {
-    let end = ThreadEnd::OutOfHeap { held: 126, need: 2 };
-    let wanted = Wanted {
-        threads: &[(&[Reply::Done], end)],
-        journal: &[copied(Phase::Inactive, 126, 126)],
-        halt: None,
-    };
-    expect(rt.alloc(), LARGEST_AND_ONE, usual(126, 0), &wanted)
+    expect(rt.alloc(), LARGEST_AND_ONE, usual(126, 0), &HOLDS_ALL)
 }
+
+const GIVEN_BACK: Wanted<'static> = Wanted {
+    threads: &[(&[Done; 4], ThreadEnd::Done)],
+    journal: &[(Phase::Inactive, [126, 126, 0, 0, 1])],
+    halt: None,
+};
 
 #[test]
 fn an_object_that_nothing_reaches_gives_its_words_back(rt: HostRuntime) -> Result<(), Fail> {
-    let wanted = Wanted {
-        threads: &[(&[Reply::Done; 4], ThreadEnd::Done)],
-        journal: &[copied(Phase::Inactive, 126, 126)],
-        halt: None,
-    };
-    expect(rt.alloc(), GARBAGE, usual(252, 0), &wanted)
+    expect(rt.alloc(), GARBAGE, usual(252, 0), &GIVEN_BACK)
 }
+
+const FINDS_NO_ROOM: Wanted<'static> = Wanted {
+    threads: &[(&[Done; 7], ThreadEnd::OutOfHeap { held: 8, need: 10 })],
+    journal: &[
+        (Phase::Inactive, [0, 10, 0, 0, 1]),
+        (Phase::Mark, [0, 10, 0, 0, 1]),
+        (Phase::Move, [0, 0, 1, 0, 11]),
+        (Phase::Move, [8, 8, 0, 0, 11]),
+    ],
+    halt: None,
+};
 
 #[test]
 fn an_object_that_left_finds_no_room_to_return(rt: HostRuntime) -> Result<(), Fail> {
-    let end = ThreadEnd::OutOfHeap { held: 8, need: 10 };
-    let last = Journal {
-        phase: Phase::Move,
-        held: 8,
-        live: 8,
-        bodies: 0,
-        stubs: 0,
-        end: 11,
-    };
-    let wanted = Wanted {
-        threads: &[(&[Reply::Done; 7], end)],
-        journal: &[
-            copied(Phase::Inactive, 0, 10),
-            copied(Phase::Mark, 0, 10),
-            emptied(1, 11),
-            last,
-        ],
-        halt: None,
-    };
-    expect(rt.alloc(), NO_RETURN, leaving(16, 1024), &wanted)
+    expect(rt.alloc(), NO_RETURN, leaving(16, 1024), &FINDS_NO_ROOM)
 }
+
+const SILENT: Wanted<'static> = Wanted {
+    threads: &[(&[Done, Yes], ThreadEnd::Done)],
+    journal: &[
+        (Phase::Inactive, [3, 3, 0, 0, 1]),
+        (Phase::Inactive, [3, 3, 0, 0, 1]),
+    ],
+    halt: None,
+};
 
 #[test]
 fn silent_collections_change_no_reply(rt: HostRuntime) -> Result<(), Fail> {
-    let wanted = Wanted {
-        threads: &[(&[Reply::Done, Reply::Yes], ThreadEnd::Done)],
-        journal: &[copied(Phase::Inactive, 3, 3); 2],
-        halt: None,
-    };
-    expect(rt.alloc(), MADE_AND_COMPARED, usual(16, 1), &wanted)
+    expect(rt.alloc(), MADE_AND_COMPARED, usual(16, 1), &SILENT)
 }
+
+const MOVED: Wanted<'static> = Wanted {
+    threads: &[(&[Done; 4], ThreadEnd::Done)],
+    journal: &[
+        (Phase::Inactive, [0, 10, 0, 0, 1]),
+        (Phase::Move, [0, 10, 0, 0, 1]),
+        (Phase::Move, [0, 0, 1, 0, 11]),
+    ],
+    halt: None,
+};
 
 #[test]
 fn words_that_nobody_holds_are_moved_to_make_room(rt: HostRuntime) -> Result<(), Fail> {
-    let wanted = Wanted {
-        threads: &[(&[Reply::Done; 4], ThreadEnd::Done)],
-        journal: &[
-            copied(Phase::Inactive, 0, 10),
-            copied(Phase::Move, 0, 10),
-            emptied(1, 11),
-        ],
-        halt: None,
-    };
-    expect(rt.alloc(), FORCED, usual(16, 0), &wanted)
+    expect(rt.alloc(), FORCED, usual(16, 0), &MOVED)
 }
