@@ -46,16 +46,21 @@ fn write_records<D: StaleDisk>(disk: &mut D, count: u32) -> Result<StaleSpace<'_
     Ok(space)
 }
 
+/// Reads the record at `home`, which has to be a Body of that shape.
+fn record_at<R: RecordReader>(reader: &mut R, home: u32, end: u32) -> Result<[u64; COST as usize]> {
+    let mut words = [0; COST as usize];
+    reader.read_at(home, &mut words)?;
+    let head = decode_head(home, end, [words[0], words[1]])?;
+    ensure!(head == BODY, "home {home} has another record");
+    decode_rest(home, end, SHAPE, &words[2..])?;
+    Ok(words)
+}
+
 /// Reads the records before `end`, and mixes their words into one.
 fn sum_of_records<R: RecordReader>(reader: &mut R, end: u32) -> Result<u64> {
     let mut sum = 0u64;
     for number in 0..end / COST {
-        let home = number * COST + 1;
-        let mut words = [0; COST as usize];
-        reader.read_at(home, &mut words)?;
-        let head = decode_head(home, end, [words[0], words[1]])?;
-        ensure!(head == BODY, "home {home} has another record");
-        decode_rest(home, end, SHAPE, &words[2..])?;
+        let words = record_at(reader, number * COST + 1, end)?;
         sum = words
             .iter()
             .fold(sum, |sum, word| (sum ^ *word).wrapping_mul(PRIME));
@@ -67,9 +72,15 @@ fn sum_of_records<R: RecordReader>(reader: &mut R, end: u32) -> Result<u64> {
 pub fn checksum<D: StaleDisk>(alloc: Global, disk: &mut D, count: u32) -> Result<u64> {
     let mut space = write_records(disk, count)?;
     let mut reader = space.lend(alloc)?;
-    let sum = sum_of_records(&mut reader, space.end())?;
+    let sum = sum_of_records(&mut reader, space.end());
     space.give_back(reader);
-    Ok(sum)
+    sum
+}
+
+/// The same for a disk in a file.
+fn checksum_of_file(rt: HostRuntime, count: u32) -> Result<u64> {
+    let mut disk = FileDisk::new(rt.alloc(), rt)?;
+    checksum(rt.alloc(), &mut disk, count)
 }
 
 /// What the word after `disk` asks for.
@@ -77,8 +88,7 @@ pub fn bench(rt: HostRuntime, words: &[String]) -> Result<()> {
     let [count] = words else {
         bail!("`disk` takes one word: how many records");
     };
-    let mut disk = FileDisk::new(rt.alloc(), rt)?;
-    let sum = checksum(rt.alloc(), &mut disk, number(count)?)?;
+    let sum = checksum_of_file(rt, number(count)?)?;
     println!(rt; "{sum}")?;
     Ok(())
 }

@@ -1,8 +1,9 @@
 //! Makes calls on an epoch of eight threads, begins and finishes epochs on a full heap, or walks lists whose
 //! references have tags. It takes four words: what to do, how many words the heap has, how often, and how many
 //! threads do it. Where lists are walked, the second is how many loads a thread makes in an epoch, and the third how
-//! many epochs there are; threads are started for them, and where the fourth is 0, the one that is there walks.
-//! `bench/epoch` times it.
+//! many epochs there are; threads are started for them, and where the fourth is 0, the one that is there walks. They
+//! have every second mutator of an epoch, and so there are at most four; with a fifth word, `beside`, they have the
+//! first ones, which lie side by side. `bench/epoch` times it.
 ghost use Rattle.std.specs.Prelude.{◌<◌, ◌≤◌, ◌^◌, IfSome};
 
 pub mod calls;
@@ -12,12 +13,13 @@ mod walks;
 
 use crate::epoch::calls::{Call, time_calls};
 use crate::epoch::lists::Lists;
-use crate::epoch::turns::time_turns;
-use crate::epoch::walks::{Tag, time_walks};
+use crate::epoch::turns::{Turn, time_turns};
+use crate::epoch::walks::{Tag, Times, time_walks};
 use crate::words::number;
 use anyhow::{Context, Result, bail, ensure};
 use melt_io::FileDisk;
 use std::alloc::Global;
+use std::io;
 use std::sync::Wait;
 use std::thread::Threads;
 use std::time::Clock;
@@ -66,10 +68,36 @@ fn tell_turns<X: Threads + Sync + Clock + Print>(
 ) -> Result<()>
     requires { words < 2 ^ 30 }
 {
-    for turn in time_turns(rt, alloc, words, count)? {
+    let turns = time_turns(rt, alloc, words, count)?;
+    print_turns(rt, &turns)?;
+    Ok(())
+}
+
+fn print_turns(rt: &impl Print, turns: &[Turn]) -> io::Result<()> {
+    for turn in turns {
         println!(rt; "{} {}", turn.begin.as_nanos(), turn.finish.as_nanos())?;
     }
     Ok(())
+}
+
+fn print_times(rt: &impl Print, times: &Times) -> io::Result<()> {
+    println!(rt; "{} {}", times.sum, times.used)?;
+    for took in &times.took {
+        println!(rt; "{}", took.as_nanos())?;
+    }
+    Ok(())
+}
+
+/// Walks lists over a disk in a file.
+fn time_walks_on_file<X: Threads + Wait + Sync + Clock>(
+    rt: &X,
+    files: HostRuntime,
+    tag: Tag,
+    lists: Lists,
+    epochs: u32,
+) -> Result<Times> {
+    let mut disk = FileDisk::new(files.alloc(), files)?;
+    time_walks(rt, files.alloc(), &mut disk, tag, lists, epochs)
 }
 
 /// Tells what walks came to: the sum of the numbers at their ends and how many words are in use, and how long each
@@ -81,13 +109,20 @@ fn tell_walks<X: Threads + Wait + Sync + Clock + Print>(
     lists: Lists,
     epochs: u32,
 ) -> Result<()> {
-    let mut disk = FileDisk::new(files.alloc(), files)?;
-    let times = time_walks(rt, files.alloc(), &mut disk, tag, lists, epochs)?;
-    println!(rt; "{} {}", times.sum, times.used)?;
-    for took in &times.took {
-        println!(rt; "{}", took.as_nanos())?;
-    }
+    let times = time_walks_on_file(rt, files, tag, lists, epochs)?;
+    print_times(rt, &times)?;
     Ok(())
+}
+
+/// How far apart the mutators of threads lie that walk lists, by the words after the fourth.
+fn spacing_of(words: &[String]) -> Option<usize>
+    ensures { IfSome result (λ spacing. 0 < spacing) }
+{
+    match words {
+        [] => Some(2),
+        [word] if word.as_str() == "beside" => Some(1),
+        _ => None,
+    }
 }
 
 /// What the words after `epoch` ask for.
@@ -96,9 +131,10 @@ pub fn bench<X: Threads + Wait + Sync + Clock + Print>(
     files: HostRuntime,
     words: &[String],
 ) -> Result<()> {
-    let [what, size, count, threads] = words else {
+    let [what, size, count, threads, more @ ..] = words else {
         bail!("`epoch` takes what to do, how many words, how often, and how many threads");
     };
+    let spacing = spacing_of(more).context("there is no fifth word but `beside`")?;
     let (size, count, threads) = (number(size)?, number(count)?, number(threads)?);
     ensure!(size < MANY, "a heap has fewer words");
     if what.as_str() == "turns" {
@@ -107,6 +143,7 @@ pub fn bench<X: Threads + Wait + Sync + Clock + Print>(
     if let Some((tag, nums)) = walk_of(what) {
         let lists = Lists {
             threads: threads.max(1),
+            spacing,
             is_apart: threads != 0,
             objects: size.max(LIST),
             loads: size,

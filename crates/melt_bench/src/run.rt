@@ -51,26 +51,55 @@ fn tell_time(rt: &impl Print, took: Duration) -> io::Result<()> {
     println!(rt; "nanoseconds {}", took.as_nanos())
 }
 
+/// The trace on standard input.
+fn read_trace(files: HostRuntime) -> Result<Trace> {
+    let alloc = files.alloc();
+    let bytes = read_all(alloc, &mut StdSource::new(files.stdin()), MAX_BYTES)?;
+    Ok(parse(alloc, &bytes)?)
+}
+
+/// Runs the trace once, and tells how it ended. Answers how long that took.
+fn run_first<X: Threads + Sync + Clock + Print>(
+    rt: &X,
+    files: HostRuntime,
+    trace: &Trace,
+    asked: Asked,
+) -> Result<Duration>
+    requires ranges { InRanges asked.config }
+{
+    let first = run_once(rt, files, files.alloc(), trace, asked)?;
+    tell(rt, &first.report)?;
+    Ok(first.took)
+}
+
+/// Makes all runs that are asked for.
+fn run_all<X: Threads + Sync + Clock + Print>(
+    rt: &X,
+    files: HostRuntime,
+    trace: &Trace,
+    asked: Asked,
+) -> Result<()>
+    requires ranges { InRanges asked.config }
+{
+    let took = run_first(rt, files, trace, asked)?;
+    if asked.timed > 0 {
+        tell_time(rt, took)?;
+    }
+    for _ in 1..asked.timed {
+        let took = run_once(rt, files, files.alloc(), trace, asked)?.took;
+        tell_time(rt, took)?;
+    }
+    Ok(())
+}
+
 /// What the words after `run` ask for.
 pub fn bench<X: Threads + Sync + Clock + Print>(
     rt: &X,
     files: HostRuntime,
     words: &[String],
 ) -> Result<()> {
-    let alloc = files.alloc();
-    keep_memory(alloc);
+    keep_memory(files.alloc());
     let asked = asked_by(words)?;
-    let bytes = read_all(alloc, &mut StdSource::new(files.stdin()), MAX_BYTES)?;
-    let trace = parse(alloc, &bytes)?;
-    let first = run_once(rt, files, alloc, &trace, asked)?;
-    tell(rt, &first.report)?;
-    if asked.timed > 0 {
-        tell_time(rt, first.took)?;
-    }
-    drop(first);
-    for _ in 1..asked.timed {
-        let Timed { took, .. } = run_once(rt, files, alloc, &trace, asked)?;
-        tell_time(rt, took)?;
-    }
-    Ok(())
+    let trace = read_trace(files)?;
+    run_all(rt, files, &trace, asked)
 }

@@ -1,8 +1,9 @@
 //! Calls of threads at once. Register 0 of each holds an object of its own, whose slot 0 refers to itself.
 //! These objects are so large that no two threads write into one line of a cache.
-ghost use Rattle.std.specs.Prelude.{◌<◌, ◌≤◌, ◌^◌, IfOk};
+ghost use Rattle.std.specs.Prelude.{◌<◌, ◌≤◌, ◌^◌, [], IfOk};
 ghost use Rattle.melt_epoch.specs.Tests.{HasBegun, MayCall};
 ghost use Rattle.melt_epoch_tests.specs.Scenes.{GoesOnScene};
+ghost use Rattle.melt_move.specs.Collecting.{IsFormedOn};
 
 use anyhow::{Context, Result, ensure};
 use melt_core::Refusal;
@@ -16,7 +17,7 @@ use std::thread;
 use std::thread::Threads;
 
 /// What is done again and again.
-#[derive(Clone, Copy, Debug, PartialEq, Eq)]
+#[derive(Clone, Copy)]
 pub enum Call {
     Load,
     Store,
@@ -242,8 +243,28 @@ fn make_objects<D: StaleDisk, R: RecordReader>(scene: &mut Scene<'_, D, R>) -> b
     is_made
 }
 
-/// Lets the first threads make so many calls each on a heap of so many words. Answers the sum of the numbers in
-/// their objects, and how many words are in use.
+/// Lets the first threads make so many calls each in an epoch on a heap without objects. Answers the sum of the numbers
+/// in their objects, and how many words are in use.
+fn call_in<T: Threads + Sync>(
+    rt: &T,
+    alloc: Global,
+    world: World<'_, MemDisk>,
+    call: Call,
+    count: u32,
+    threads: usize,
+) -> Result<(u64, u32)>
+    requires { IsFormedOn world.heap [] world.disk.end }
+    ensures { IfOk result (λ told. told.1 < 2 ^ 30) }
+{
+    let mut scene = world.open(alloc)?;
+    let is_made = make_objects(&mut scene);
+    let sum = repeat_on(rt, &mut scene, threads, call, count);
+    let used = scene.finish().used();
+    ensure!(is_made, "an object was not made");
+    Ok((sum.context("a call was refused")?, used))
+}
+
+/// The same on a new heap of so many words.
 pub fn time_calls<T: Threads + Sync>(
     rt: &T,
     alloc: Global,
@@ -257,11 +278,5 @@ pub fn time_calls<T: Threads + Sync>(
 {
     let mut disk = MemDisk::new(alloc);
     let world = World::new(alloc, &mut disk, 1, words, 1, 0)?;
-    let mut scene = world.open(alloc)?;
-    let is_made = make_objects(&mut scene);
-    let sum = repeat_on(rt, &mut scene, threads, call, count);
-    let world = scene.finish();
-    ensure!(is_made, "an object was not made");
-    let sum = sum.context("a call was refused")?;
-    Ok((sum, world.used()))
+    call_in(rt, alloc, world, call, count, threads)
 }

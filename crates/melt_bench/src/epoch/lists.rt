@@ -1,6 +1,6 @@
 //! A list of each thread, which a global holds and which its thread walks. Slot 0 of each object refers to the next,
 //! and its first number says at which place of the list it stands, from 1.
-ghost use Rattle.std.specs.Prelude.{◌≡◌, ◌≢◌, ◌+◌, ◌*◌, ◌<◌, ◌≤◌, ◌^◌, ◌↔◌, [], All, IsSome};
+ghost use Rattle.std.specs.Prelude.{◌≡◌, ◌≢◌, ◌+◌, ◌*◌, ◌<◌, ◌≤◌, ◌^◌, ◌↔◌, [], All, IfSome, IsSome};
 ghost use Rattle.melt_epoch.specs.Tests.{HasBegun, MayCall};
 ghost use Rattle.melt_epoch_tests.specs.Scenes.{GoesOnScene};
 
@@ -19,10 +19,14 @@ use std::{hint, thread};
 const TURNS: u32 = 1_000_000;
 
 /// The lists that threads walk.
-#[derive(Clone, Copy, Debug, PartialEq, Eq)]
+#[derive(Clone, Copy)]
 pub struct Lists {
     /// How many threads walk at once. Each has a list of its own.
     pub threads: u32,
+    /// How many places after that of a thread the mutator of the next one lies, among the eight of an epoch. At 1
+    /// they lie side by side, so that two threads write registers in one line of a cache; at 2 they do not.
+    pub spacing: usize,
+    ghost spaced: { 0 < spacing },
     /// Whether a thread is started for each. Else there is one alone, that which calls.
     pub is_apart: bool,
     /// How many objects a list has.
@@ -51,6 +55,21 @@ impl Lists {
     {
         let loads = self.threads.saturating_mul(self.loads);
         u16::try_from(loads).unwrap_or(u16::MAX)
+    }
+
+    /// The place of the mutator of a thread.
+    fn place_of(&self, thread: usize) -> Option<usize>
+        ensures { IfSome result (λ place. place ≡ thread * self.now.spacing) }
+    {
+        thread.checked_mul(self.spacing)
+    }
+
+    /// The thread that has the mutator at this place, where one has it.
+    fn thread_at(&self, place: usize) -> Option<usize>
+        ensures { IfSome result (λ thread. place ≡ thread * self.now.spacing) }
+    {
+        let thread = place / self.spacing;
+        (self.place_of(thread) == Some(place)).then_some(thread)
     }
 }
 
@@ -94,7 +113,7 @@ fn make_list_of<T: Threads + Sync, R: RecordReader + Send>(
         requires may { MayCall R.image epoch.now.words m.now }
         ensures { MayCall R.image epoch.entry.now.words m.exit.now }
     {
-        if at == thread
+        if lists.thread_at(at) == Some(thread)
             && at < usize::from(globals)
             && make_list(epoch, m, at as u8, lists).is_ok()
         {
@@ -187,7 +206,7 @@ fn meet(here: &AtomicU64, threads: u32) {
 }
 
 /// What the walks of all threads came to that were made at once.
-#[derive(Clone, Copy, Debug)]
+#[derive(Clone, Copy)]
 pub struct Walked {
     /// How long it took from the beginning of the first to the end of the last.
     pub took: Duration,
@@ -235,11 +254,14 @@ fn walk_all<T: Threads + Wait + Sync + Clock, R: RecordReader + Send>(
         requires may { MayCall R.image epoch.now.words m.now }
         ensures { MayCall R.image epoch.entry.now.words m.exit.now }
     {
-        if at < threads as usize && at < usize::from(globals) && at < 8 {
+        let Some(thread) = lists.thread_at(at) else {
+            return;
+        };
+        if thread < threads as usize && thread < 8 && at < usize::from(globals) {
             meet(&here, threads);
             let walk = walk_by_the_clock(rt, epoch, m, at as u8, loads);
             let mut all = walks.lock(rt);
-            all[at] = walk;
+            all[thread] = walk;
         }
     };
     let at_once = if lists.is_apart { 8 } else { 1 };

@@ -7,6 +7,7 @@ use anyhow::{Context, Result};
 use melt_epoch_tests::World;
 use melt_io::MemDisk;
 use std::alloc::Global;
+use std::io;
 use std::thread::Threads;
 use std::time::{Clock, Duration, Instant};
 
@@ -14,7 +15,7 @@ use std::time::{Clock, Duration, Instant};
 const COST: u32 = 64;
 
 /// How long an epoch took to begin and to finish.
-#[derive(Clone, Copy, Debug)]
+#[derive(Clone, Copy)]
 pub struct Turn {
     pub begin: Duration,
     pub finish: Duration,
@@ -37,6 +38,19 @@ fn fill<'d, T: Threads + Sync>(
     Ok(world)
 }
 
+/// The turn between these times.
+fn turn_of(
+    before: io::Result<Instant>,
+    between: io::Result<Instant>,
+    after: io::Result<Instant>,
+) -> io::Result<Turn> {
+    let (before, between, after) = (before?, between?, after?);
+    Ok(Turn {
+        begin: between.duration_since(before),
+        finish: after.duration_since(between),
+    })
+}
+
 /// Begins an epoch and finishes it.
 fn begin_and_finish<'d, C: Clock>(
     clock: &C,
@@ -48,16 +62,12 @@ fn begin_and_finish<'d, C: Clock>(
 {
     let mut world = world;
     let readers = world.lend(alloc)?;
-    let before = Instant::now(clock)?;
+    let before = Instant::now(clock);
     let scene = world.begin(alloc, readers)?;
     let between = Instant::now(clock);
     let world = scene.finish();
-    let after = Instant::now(clock)?;
-    let between = between?;
-    let turn = Turn {
-        begin: between.duration_since(before),
-        finish: after.duration_since(between),
-    };
+    let after = Instant::now(clock);
+    let turn = turn_of(before, between, after)?;
     Ok((world, turn))
 }
 

@@ -19,7 +19,7 @@ use std::time::{Clock, Duration};
 pub type Disk = FileDisk<StdFile<HostRuntime>>;
 
 /// What each load finds that a walk makes.
-#[derive(Clone, Copy, Debug, PartialEq, Eq)]
+#[derive(Clone, Copy)]
 pub enum Tag {
     /// A reference to an object that has its stale bit.
     Stale,
@@ -28,7 +28,7 @@ pub enum Tag {
 }
 
 /// How long each walk took, and what was there after the last.
-#[derive(Debug, Drop)]
+#[derive(Drop)]
 pub struct Times {
     pub took: Vec<Duration>,
     /// The sum of the numbers of the objects at which the walks ended.

@@ -8,7 +8,7 @@ use anyhow::{Context, Result, ensure};
 use melt_model::Config;
 
 /// What is asked for.
-#[derive(Clone, Copy, Debug, PartialEq, Eq)]
+#[derive(Clone, Copy)]
 pub struct Asked {
     pub config: Config,
     /// Whether the disk is the file `melt.stale` of the current folder, and not one in memory.

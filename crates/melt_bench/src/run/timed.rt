@@ -14,7 +14,7 @@ use std::thread::Threads;
 use std::time::{Clock, Duration, Instant};
 
 /// What a run came to, and how long it took.
-#[derive(Debug, Drop)]
+#[derive(Drop)]
 pub struct Timed {
     pub report: Report,
     pub took: Duration,
