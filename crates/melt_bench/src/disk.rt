@@ -1,6 +1,6 @@
 //! Writes records to a disk in the file `melt.stale` of the current folder, reads them back, and prints a
 //! checksum of their words. It takes one word: how many records. `bench/disk` times it.
-ghost use Rattle.std.specs.Prelude.{◌≡◌, ◌^◌, ◌<◌, ◌≤◌};
+ghost use Rattle.std.specs.Prelude.{◌≡◌, ◌+◌, ◌^◌, ◌<◌, ◌≤◌};
 ghost use Rattle.melt_record.specs.Records.{AreSlots};
 ghost use Rattle.melt_word.specs.Words.{IsDiskHome};
 
@@ -47,7 +47,9 @@ fn write_records<D: StaleDisk>(disk: &mut D, count: u32) -> Result<StaleSpace<'_
 }
 
 /// Reads the record at `home`, which has to be a Body of that shape.
-fn record_at<R: RecordReader>(reader: &mut R, home: u32, end: u32) -> Result<[u64; COST as usize]> {
+fn record_at<R: RecordReader>(reader: &mut R, home: u32, end: u32) -> Result<[u64; COST as usize]>
+    requires { home + 8 ≤ 2 ^ 32 }
+{
     let mut words = [0; COST as usize];
     reader.read_at(home, &mut words)?;
     let head = decode_head(home, end, [words[0], words[1]])?;

@@ -3,7 +3,8 @@
 //! threads do it. Where lists are walked, the second is how many loads a thread makes in an epoch, and the third how
 //! many epochs there are; threads are started for them, and where the fourth is 0, the one that is there walks. They
 //! have every second mutator of an epoch, and so there are at most four; with a fifth word, `beside`, they have the
-//! first ones, which lie side by side. `bench/epoch` times it.
+//! first ones, which lie side by side. What it came to goes to standard output, and how long it took to standard error.
+//! `bench/epoch` times it.
 ghost use Rattle.std.specs.Prelude.{◌<◌, ◌≤◌, ◌^◌, IfSome};
 
 pub mod calls;
@@ -60,7 +61,7 @@ fn walk_of(name: &str) -> Option<(Tag, u8)>
 }
 
 /// Tells how long each epoch took to begin and to finish.
-fn tell_turns<X: Threads + Sync + Clock + Print>(
+fn tell_turns<X: Threads + Sync + Clock + Eprint>(
     rt: &X,
     alloc: Global,
     words: u32,
@@ -73,17 +74,17 @@ fn tell_turns<X: Threads + Sync + Clock + Print>(
     Ok(())
 }
 
-fn print_turns(rt: &impl Print, turns: &[Turn]) -> io::Result<()> {
+fn print_turns(rt: &impl Eprint, turns: &[Turn]) -> io::Result<()> {
     for turn in turns {
-        println!(rt; "{} {}", turn.begin.as_nanos(), turn.finish.as_nanos())?;
+        eprintln!(rt; "{} {}", turn.begin.as_nanos(), turn.finish.as_nanos())?;
     }
     Ok(())
 }
 
-fn print_times(rt: &impl Print, times: &Times) -> io::Result<()> {
+fn print_times<X: Print + Eprint>(rt: &X, times: &Times) -> io::Result<()> {
     println!(rt; "{} {}", times.sum, times.used)?;
     for took in &times.took {
-        println!(rt; "{}", took.as_nanos())?;
+        eprintln!(rt; "{}", took.as_nanos())?;
     }
     Ok(())
 }
@@ -102,7 +103,7 @@ fn time_walks_on_file<X: Threads + Wait + Sync + Clock>(
 
 /// Tells what walks came to: the sum of the numbers at their ends and how many words are in use, and how long each
 /// took.
-fn tell_walks<X: Threads + Wait + Sync + Clock + Print>(
+fn tell_walks<X: Threads + Wait + Sync + Clock + Print + Eprint>(
     rt: &X,
     files: HostRuntime,
     tag: Tag,
@@ -126,7 +127,7 @@ fn spacing_of(words: &[String]) -> Option<usize>
 }
 
 /// What the words after `epoch` ask for.
-pub fn bench<X: Threads + Wait + Sync + Clock + Print>(
+pub fn bench<X: Threads + Wait + Sync + Clock + Print + Eprint>(
     rt: &X,
     files: HostRuntime,
     words: &[String],
