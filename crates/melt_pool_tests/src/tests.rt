@@ -113,7 +113,7 @@ fn new_mutator<'a, R: Abort>(
     mutator
 }
 
-/// Lets the first call of a new thread have been refused for want of room.
+/// Lets the first call of a new thread, a `new`, have been refused for want of room.
 fn refuse<R: Abort>(rt: &R, mutator: &mut Mutator<Worker<'_, NoDisk>>)
     ensures thread { mutator.new.thread ≡ mutator.old.thread }
     ensures may_start { MayStart (λ _. Some []) mutator.old → MayStart (λ _. Some []) mutator.new }
@@ -127,9 +127,8 @@ fn refuse<R: Abort>(rt: &R, mutator: &mut Mutator<Worker<'_, NoDisk>>)
         panic!(rt; "no thread");
     };
     match (state.mode, state.op) {
-        (_, Some(Op::Collect)) => panic!(rt; "no call"),
-        (Mode::Running, Some(_)) => state.mode = Mode::Lacking,
-        _ => panic!(rt; "no call"),
+        (Mode::Running, Some(Op::New { .. })) => state.mode = Mode::Lacking,
+        _ => panic!(rt; "no new"),
     }
     worker.state = Some(state);
     mutator.set_reader(worker);
