@@ -13,7 +13,7 @@ use melt_core::Refusal;
 use melt_io::{Failed, MemDisk, MemReader, RecordReader};
 use melt_model::{Op, Phase, Reply};
 use std::alloc::Global;
-use std::sync::{Arc, Wait};
+use std::sync::Wait;
 use std::thread::Threads;
 
 /// What a reader does beside reading, at one of its reads, which count from 1.
@@ -30,16 +30,16 @@ pub(super) enum Flaw {
 
 /// A reader with a flaw.
 #[derive(Drop)]
-pub(super) struct Flawed<R> {
+pub(super) struct Flawed<'s, R> {
     inner: R,
     /// By which it waits, where that is its flaw.
-    signals: Option<Arc<Signals, Global>>,
+    signals: &'s Signals,
     flaw: Flaw,
     reads: u64,
     faults: u64,
 }
 
-impl<R: RecordReader> RecordReader for Flawed<R> {
+impl<'s, R: RecordReader> RecordReader for Flawed<'s, R> {
     ghost use Rattle.std.specs.Prelude.{None};
 
     ghost image = { λ _. None };
@@ -55,7 +55,7 @@ impl<R: RecordReader> RecordReader for Flawed<R> {
     }
 }
 
-impl<R> Flawed<R> {
+impl<'s, R> Flawed<'s, R> {
     /// Counts a read, and does what its flaw asks for there. Answers whether the read does not fail by it.
     fn is_sound(&mut self, words: &mut [u64]) -> bool
         ensures faults { self.new.faults ≡ self.old.faults }
@@ -68,10 +68,8 @@ impl<R> Flawed<R> {
                 }
             }
             Flaw::Waits(read) if read == self.reads => {
-                if let Some(signals) = &self.signals {
-                    signals.raise(0);
-                    signals.await_flag(1);
-                }
+                self.signals.raise(0);
+                self.signals.await_flag(1);
             }
             Flaw::Fails(read) if read == self.reads => return false,
             _ => {}
@@ -142,7 +140,7 @@ pub(super) struct Left {
 }
 
 /// A reader before its first read, with a flaw.
-fn new_reader<R>(inner: R, signals: Option<Arc<Signals, Global>>, flaw: Flaw) -> Flawed<R> {
+fn new_reader<'s, R>(inner: R, signals: &'s Signals, flaw: Flaw) -> Flawed<'s, R> {
     Flawed {
         inner,
         signals,
@@ -152,39 +150,33 @@ fn new_reader<R>(inner: R, signals: Option<Arc<Signals, Global>>, flaw: Flaw) ->
     }
 }
 
-/// The same without a flaw.
-fn sound_reader<R>(inner: R) -> Flawed<R> {
-    new_reader(inner, None, Flaw::Nothing)
-}
-
 /// The readers of eight threads, of which the first has this flaw.
-fn first_flawed<R>(readers: [R; 8], signals: Arc<Signals, Global>, flaw: Flaw) -> [Flawed<R>; 8] {
+fn first_flawed<'s, R>(readers: [R; 8], signals: &'s Signals, flaw: Flaw) -> [Flawed<'s, R>; 8] {
     let [r0, r1, r2, r3, r4, r5, r6, r7] = readers;
     [
-        new_reader(r0, Some(signals), flaw),
-        sound_reader(r1),
-        sound_reader(r2),
-        sound_reader(r3),
-        sound_reader(r4),
-        sound_reader(r5),
-        sound_reader(r6),
-        sound_reader(r7),
+        new_reader(r0, signals, flaw),
+        new_reader(r1, signals, Flaw::Nothing),
+        new_reader(r2, signals, Flaw::Nothing),
+        new_reader(r3, signals, Flaw::Nothing),
+        new_reader(r4, signals, Flaw::Nothing),
+        new_reader(r5, signals, Flaw::Nothing),
+        new_reader(r6, signals, Flaw::Nothing),
+        new_reader(r7, signals, Flaw::Nothing),
     ]
 }
 
 /// Begins an epoch of threads of which the first has a reader with this flaw.
-fn begin_flawed<'d>(
+fn begin_flawed<'d, 's>(
     alloc: Global,
     world: World<'d, MemDisk>,
-    signals: &Arc<Signals, Global>,
+    signals: &'s Signals,
     flaw: Flaw,
-) -> Result<Scene<'d, MemDisk, Flawed<MemReader>>, Trouble>
+) -> Result<Scene<'d, MemDisk, Flawed<'s, MemReader>>, Trouble>
     requires { IsFormedOn world.heap [] world.disk.end }
     ensures { IfOk result
         (λ scene. GoesOnScene (λ _. None) scene.epoch scene.mutators scene.globals scene.disk.end) }
 {
     let mut world = world;
-    let signals = Arc::try_clone(signals)?;
     let readers = world.lend(alloc)?;
     world.begin(alloc, first_flawed(readers, signals, flaw))
 }
@@ -201,7 +193,7 @@ pub(super) fn run<'d, T: Threads + Wait + Sync>(
     requires { IsFormedOn world.heap [] world.disk.end }
     ensures { IfOk result (λ ended. IsFormedOn ended.world.heap [] ended.world.disk.end) }
 {
-    let signals = Arc::new(alloc, Signals::new())?;
+    let signals = Signals::new();
     let mut scene = begin_flawed(alloc, world, &signals, flaw)?;
     let logs = scene.play(rt, &signals, programs);
     let held = scene.held(r);

@@ -2,8 +2,7 @@ ghost use Rattle.std.specs.Prelude.{[], IfOk};
 ghost use Rattle.melt_move.specs.Collecting.{IsFormedOn};
 
 use super::calls::gload;
-use super::given::{Before, Ended, Flaw, result, run, run_after, world_after};
-use crate::log::Log;
+use super::given::{Before, Ended, Flaw, Seen, result, run, run_after, world_after};
 use crate::play::Step::{self, Await, Call, Raise};
 use crate::world::World;
 use melt_core::{Pause, Refusal};
@@ -65,15 +64,20 @@ const LOAD_BY_EIGHT: [&[Step]; 8] = [
     &[Call(Op::GLoad { dst: 0, g: 7 })],
 ];
 
-/// Looks that eight threads found one object, which alone came back.
-fn find_one(logs: &[Log; 8], held: &[u32; 8], returned: Option<usize>) -> Result<(), Fail> {
+/// Looks that eight threads found one object, which alone came back, and that no words were in use after it had left
+/// again.
+fn find_one(seen: &Seen, returned: Option<usize>, used: u32) -> Result<(), Fail> {
     for k in 0..8 {
-        same((k, result(logs, k, 0)), (k, Some(Ok(Reply::Ref))))?;
+        same((k, result(&seen.logs, k, 0)), (k, Some(Ok(Reply::Ref))))?;
     }
-    same((*held, hold_one(held, 8), returned), (*held, true, Some(1)))
+    same(
+        (seen.held, hold_one(&seen.held, 8), returned, used),
+        (seen.held, true, Some(1), 0),
+    )
 }
 
-/// Lets eight threads load one global each, all at once, looks that they find one object, and moves it away again.
+/// Lets eight threads load one global each, all at once, moves away again what they found, and looks that it was one
+/// object.
 fn load_by_eight<'d, T: Threads + Wait + Sync>(
     rt: &T,
     alloc: Global,
@@ -83,10 +87,10 @@ fn load_by_eight<'d, T: Threads + Wait + Sync>(
     ensures { IfOk result (λ world. IsFormedOn world.heap [] world.disk.end) }
 {
     let Ended { seen, world } = run(rt, alloc, world, Flaw::Nothing, &LOAD_BY_EIGHT, 0)?;
-    find_one(&seen.logs, &seen.held, world.returned())?;
+    let returned = world.returned();
     let world = world.collect(alloc, Phase::Move)?;
     let world = world.collect(alloc, Phase::Move)?;
-    same(world.used(), 0)?;
+    find_one(&seen, returned, world.used())?;
     Ok(world)
 }
 

@@ -263,14 +263,23 @@ fn play_over<T: Threads + Wait + Sync>(
     })
 }
 
+/// Lets them play over a disk in memory, which is done with after that.
+fn play_trial<T: Threads + Wait + Sync>(
+    rt: &T,
+    alloc: Global,
+    seed: u64,
+) -> Result<Played, Trouble> {
+    let mut disk = MemDisk::new(alloc);
+    play_over(rt, alloc, seed, &mut disk)
+}
+
 /// Makes the trial of a seed.
 pub fn run_trial<T: Threads + Wait + Sync>(
     rt: &T,
     alloc: Global,
     seed: u64,
 ) -> Result<Outcome, Trouble> {
-    let mut disk = MemDisk::new(alloc);
-    let played = play_over(rt, alloc, seed, &mut disk)?;
+    let played = play_trial(rt, alloc, seed)?;
     Ok(Outcome {
         is_legal: played.returned.is_some() && judge(alloc, &played)?,
         returned: played.returned.unwrap_or(0),

@@ -153,7 +153,14 @@ fn expect(
     Ok(())
 }
 
-/// Makes calls so in an epoch on a new heap of so many words, globals and forwarding words. Answers the heap after it.
+/// Compares what calls leave of a heap: how many words are in use, and what its globals hold.
+fn expect_left(compared: Result<(), Fail>, heap: &Heap, left: (u32, &[u64])) -> Result<(), Fail> {
+    compared?;
+    same((heap.space.used(), heap.globals.items.as_slice()), left)
+}
+
+/// Makes calls so in an epoch on a new heap of so many words, globals and forwarding words, and compares what they
+/// leave of it.
 pub(super) fn expect_in(
     alloc: Global,
     words: u32,
@@ -161,13 +168,13 @@ pub(super) fn expect_in(
     forwards: u8,
     mutators: &mut [Mutator<NoDisk>],
     calls: &[Wanted],
-) -> Result<Heap, Fail>
+    left: (u32, &[u64]),
+) -> Result<(), Fail>
     requires words { words < 2 ^ 30 }
     requires mutators { AllMayStart (λ _. Some []) mutators.old }
 {
     let epoch = begun(alloc, words, globals, forwards, mutators)?;
     let compared = expect(&epoch, globals, mutators, calls);
     let (heap, _pass) = epoch.finish(mutators);
-    compared?;
-    Ok(heap)
+    expect_left(compared, &heap, left)
 }

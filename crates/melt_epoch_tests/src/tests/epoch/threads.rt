@@ -87,10 +87,21 @@ fn used_after<R: Abort + Threads + Sync>(
     Ok(heap.space.used())
 }
 
+/// Lets two threads do so.
+fn used_by_two<R: Abort + Threads + Sync>(rt: &R, alloc: Global) -> Result<u32, NoMemory> {
+    let mut mutators = two_mutators();
+    used_after(rt, alloc, 1024, &mut mutators)
+}
+
+/// Lets eight threads do so.
+fn used_by_eight<R: Abort + Threads + Sync>(rt: &R, alloc: Global) -> Result<u32, NoMemory> {
+    let mut mutators = eight_mutators();
+    used_after(rt, alloc, 2048, &mut mutators)
+}
+
 #[test]
 fn two_threads_make_objects_and_share_them(rt: HostRuntime) -> Result<(), Fail> {
-    let mut mutators = two_mutators();
-    same(used_after(&rt, rt.alloc(), 1024, &mut mutators), Ok(400))
+    same(used_by_two(&rt, rt.alloc()), Ok(400))
 }
 
 /// How often eight threads do so; `bench/rounds` tries more.
@@ -99,8 +110,7 @@ const ROUNDS: u32 = 100;
 #[test]
 fn eight_threads_make_objects_and_share_them(rt: HostRuntime) -> Result<(), Fail> {
     for round in 0..ROUNDS {
-        let mut mutators = eight_mutators();
-        let used = used_after(&rt, rt.alloc(), 2048, &mut mutators);
+        let used = used_by_eight(&rt, rt.alloc());
         same((round, used), (round, Ok(1600)))?;
     }
     Ok(())

@@ -2,7 +2,6 @@ use super::given::{answered, expect_in, one_mutator, paused, two_mutators};
 use crate::tests::calls::{are_same, get, gstore, new, put, store};
 use melt_core::Pause;
 use melt_model::{Op, Reply};
-use melt_same::same;
 use std::test::Fail;
 
 #[test]
@@ -27,8 +26,7 @@ fn a_mutator_makes_an_object_and_uses_it(rt: HostRuntime) -> Result<(), Fail> {
         answered(0, get(0, 0), Reply::Nil),
         answered(0, get(2, 0), Reply::Num(7)),
     ];
-    let heap = expect_in(rt.alloc(), 64, 1, 0, &mut mutators, &calls)?;
-    same(heap.space.used(), 4)
+    expect_in(rt.alloc(), 64, 1, 0, &mut mutators, &calls, (4, &[4]))
 }
 
 #[test]
@@ -48,9 +46,7 @@ fn two_mutators_make_objects_by_turns(rt: HostRuntime) -> Result<(), Fail> {
         answered(1, get(0, 0), Reply::Range),
         answered(0, get(1, 0), Reply::Nil),
     ];
-    let heap = expect_in(rt.alloc(), 64, 2, 3, &mut mutators, &calls)?;
-    let globals = heap.globals.items.as_slice();
-    same((heap.space.used(), globals), (12, [4, 24].as_slice()))
+    expect_in(rt.alloc(), 64, 2, 3, &mut mutators, &calls, (12, &[4, 24]))
 }
 
 #[test]
@@ -67,9 +63,7 @@ fn a_mutator_asks_all_to_stop(rt: HostRuntime) -> Result<(), Fail> {
         answered(0, get(0, 0), Reply::Nil),
         answered(1, are_same(0, 1), Reply::No),
     ];
-    let heap = expect_in(rt.alloc(), 64, 1, 0, &mut mutators, &calls)?;
-    let globals = heap.globals.items.as_slice();
-    same((heap.space.used(), globals), (4, [0].as_slice()))
+    expect_in(rt.alloc(), 64, 1, 0, &mut mutators, &calls, (4, &[0]))
 }
 
 #[test]
@@ -82,6 +76,5 @@ fn an_object_that_does_not_fit_stops_all(rt: HostRuntime) -> Result<(), Fail> {
         paused(1, new(1, 0, 0), Pause::Asked),
         paused(0, get(0, 0), Pause::Asked),
     ];
-    let heap = expect_in(rt.alloc(), 8, 1, 0, &mut mutators, &calls)?;
-    same(heap.space.used(), 8)
+    expect_in(rt.alloc(), 8, 1, 0, &mut mutators, &calls, (8, &[0]))
 }
