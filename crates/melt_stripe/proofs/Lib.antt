@@ -1,0 +1,9 @@
+pub mod Counting
+pub mod Disks
+pub mod Lending
+pub mod Pieces
+pub mod Places
+pub mod Reading
+pub mod Telling
+pub mod Values
+pub mod Writing
