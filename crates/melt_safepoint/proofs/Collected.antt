@@ -19,6 +19,11 @@ use Rattle.melt_move.specs.declared.planned.Plan.{Plan}
 use Rattle.melt_core.specs.Views.{View}
 use Rattle.melt_core.proofs.Disks.{stands_untold}
 use Rattle.melt_safepoint.specs.declared.thread.ThreadState.{ThreadState}
+use Rattle.melt_safepoint.specs.declared.thread.Mode.{Mode}
+use Rattle.melt_safepoint.specs.declared.thread.Mode.TheVariants.{Asked, Collecting, Due, Lacking, Running, Silent}
+use Rattle.melt_safepoint.specs.declared.thread.Mode.TheVariants as mode
+use Rattle.melt_safepoint.specs.Modes.{IsEnded, Waits}
+use Rattle.melt_safepoint.specs.Passing.{OneWaits}
 use Rattle.melt_safepoint.specs.Threads.{AreHalted, SomeGoesOn}
 use Rattle.melt_safepoint.specs.Journals.{next_of, before, end_of, IsTight, MayMove, IsJournalOf, OneMore, Planned}
 use Rattle.melt_safepoint.specs.Counts.{CountsCollections}
@@ -115,7 +120,7 @@ moments_more : {script : Script} {config : Config} {disk : OnDisk} {v : View} (w
 moments_more {script} {config} {disk} {v} w {states} js {entry} {unpaid} table gathers counts history rest =
     subst (λ (h : List Entry). JustMade script h states config (js ++ entry ∷ [])) (sym history)
     (made_now js entry table rest (moment_now script config disk v states js entry table gathers)
-    (counts_now script config unpaid v.log states (length js) table.count counts))
+    (counts_now script config unpaid v.log states (length js) table.count table.due counts))
 
 -- what a collection left, over the disk under a run
 abbrev pub Over : ℕ → Bool → Script → Config → Bool → (shown later : Shown) → (old new : Row) → Type 0
@@ -311,13 +316,26 @@ full_ends {config} force {shown} run {full} ended stands tight is over journal =
       needs = λ tells. over.needs;
     }
 
+-- a thread that waits has not ended
+pub waits_open : (mode : Mode) → Waits mode → IsEnded mode → ⊥
+waits_open Running waits over = over
+waits_open Due waits over = over
+waits_open Silent waits over = over
+waits_open Collecting waits over = over
+waits_open Asked waits over = over
+waits_open Lacking waits over = over
+waits_open (mode.Ended e) waits over = waits
+
+pub waits_goes : (states : List ThreadState) → OneWaits states → SomeGoesOn states
+waits_goes states waits = (waits.0, (waits.1.0, waits.1.1, waits_open waits.1.0.mode waits.1.2))
+
 -- what is left where the disk was full for a collection
 pub stands_full : {unpaid : ℕ} {told : Bool} {script : Script} {config : Config} (force : Bool) {shown later : Shown}
     {run : Row} {left : Left} {full : DiskFull} {ended : Ended} → StandsBut unpaid told script config shown run
-    → SomeGoesOn run.states → (force ≡ true → IsTight config (last_of run.collector))
+    → OneWaits run.states → (force ≡ true → IsTight config (last_of run.collector))
     → IsFullCore (phase_done force run.collector.plan.next) shown later run.view left full
     → Halts run left (halt.DiskFull full.end full.need full.limit) ended → EndedStands told script config later ended
-stands_full {unpaid} {told} {script} {config} force {later} {run} {full} {ended} stands some tight is halts =
+stands_full {unpaid} {told} {script} {config} force {later} {run} {full} {ended} stands waits tight is halts =
     let v : View = run.view in
     let w : View = is.w in
     let states : List ThreadState = run.states in
@@ -339,8 +357,8 @@ stands_full {unpaid} {told} {script} {config} force {later} {run} {full} {ended}
       counts = subst (λ (js : List Journal). CountsCollections script config unpaid states (length js))
           (sym halts.journal) stands.counts;
       log = ap (λ (l : Left). l.history) halts.left_is ∙ is.log;
-      halts = λ cause. some;
-      cause = ends_by told config later over.disk w halts is.there (halts.states, over.shows, over.under, ends);
+      halts = λ cause. waits_goes run.states waits;
+      cause = ends_by told config later over.disk w halts is.there (halts.states, over.shows, over.under, ends, waits);
     }
 
 -- what is left where the disk failed

@@ -7,7 +7,7 @@ use Rattle.melt_model.specs.declared.config.Config.{Config}
 use Rattle.melt_trace.specs.Script.{Script}
 use Rattle.melt_safepoint.specs.declared.thread.ThreadState.{ThreadState}
 use Rattle.melt_safepoint.specs.Threads.{AllWait, OweAfterCollects, SomeGoesOn}
-use Rattle.melt_safepoint.specs.Passing.{WaitsForRoom, CollectedAll, NoneOwn}
+use Rattle.melt_safepoint.specs.Passing.{WaitsForRoom, CollectedAll, NoneOwn, OneWaits}
 use Rattle.melt_safepoint.specs.Shown.{Shown}
 use Rattle.melt_safepoint.specs.Losses.{CountsLosses}
 use Rattle.melt_safepoint.proofs.Counting.{counts_more, overs_less}
@@ -53,10 +53,10 @@ stops_there shown mid later old run stop keeps stops told script config rests =
     stops told script config (keeps told script config rests).0
 
 -- a collection that is not forced
-pub stops_planned : (shown later : Shown) (run : Row) (stop : Stop) → SomeGoesOn run.states
+pub stops_planned : (shown later : Shown) (run : Row) (stop : Stop) → OneWaits run.states
     → StopsForced false shown later run stop → StopsRun shown later run stop
-stops_planned shown later run stop some stops told script config stands =
-    stops told script config ((0, stands), λ is. absurd (let wrong : false ≡ true = is in cc), some)
+stops_planned shown later run stop waits stops told script config stands =
+    stops told script config ((0, stands), λ is. absurd (let wrong : false ≡ true = is in cc), waits)
 
 -- a run at the beginning of a safepoint is at one
 pub begins_rest : {told : Bool} {script : Script} {config : Config} {shown : Shown} {run : Row} → AllWait run.states

@@ -122,7 +122,7 @@ gone_stands {told} {script} {config} {shown} {forced} {old} {new} {t} {held} {ne
           (gone_lacks told held e.was lacks no_room e.holds tells)
           (gone_safe told lacks tells)
           (counts_now script config (suc forced) old.view.log states (length old.collector.journal.items)
-          stands.table.count stands.counts))));
+          stands.table.count stands.table.due stands.counts))));
       made = λ is.
           subst (λ (c : Collector). MadeSoFar config new.view c.journal.items) (sym e.collector)
           (made_dropped old.view new.view t e.drops (config.heap * length old.collector.journal.items)

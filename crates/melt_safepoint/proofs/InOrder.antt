@@ -22,7 +22,7 @@ use Rattle.melt_safepoint.specs.declared.thread.ThreadState.{ThreadState}
 use Rattle.melt_safepoint.specs.Asked.{collections}
 use Rattle.melt_safepoint.specs.Cuts.{AreMoments, CountsBy, Cut, IsAmong, IsCut, IsMoment, LacksRoom, Moment, NotAfter}
 use Rattle.melt_safepoint.specs.Cuts.{IsSafepoint, Occasion}
-use Rattle.melt_safepoint.specs.Cuts.{collection, collections_among, is_collection, no_room, open_by, replies_at}
+use Rattle.melt_safepoint.specs.Cuts.{collection, collections_among, due_by, is_collection, no_room, replies_at}
 use Rattle.melt_safepoint.specs.Cuts.{replies_by}
 use Rattle.melt_safepoint.specs.Endings.{GoneIn, HaveMoments, gone_in, has_gone, now}
 use Rattle.melt_safepoint.specs.Modes.{HadNoRoom, IsEnded}
@@ -107,7 +107,7 @@ counted_same script config a b cut {made} same counts =
     record {
       asked = subst (λ (k : ℕ). k ≤ made) (asked_same script (replies_at a cut) (replies_at b cut) same n)
           counts.asked;
-      collected = subst (λ (k : ℕ). k ≤ made + open_by cut n) all counts.collected;
+      collected = subst (λ (k : ℕ). k ≤ made + due_by config cut n) all counts.collected;
       bounded = subst (λ (k : ℕ). made ≤ k + 3 * (replies_by cut n + n)) all counts.bounded;
     }
 

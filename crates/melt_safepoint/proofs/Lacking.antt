@@ -9,8 +9,8 @@ use Rattle.melt_safepoint.specs.declared.thread.Mode.{Mode}
 use Rattle.melt_safepoint.specs.declared.thread.Mode.TheVariants.{Running, Due, Silent, Collecting, Asked, Lacking}
 use Rattle.melt_safepoint.specs.declared.thread.Mode.TheVariants.{Ended}
 use Rattle.melt_safepoint.specs.declared.thread.ThreadState.{ThreadState}
-use Rattle.melt_safepoint.specs.Passing.{IsLacking, CalledAt, WaitsForRoom}
-use Rattle.melt_safepoint.specs.Modes.{IsEnded, IsPaused, jobs}
+use Rattle.melt_safepoint.specs.Passing.{IsLacking, CalledAt, OneWaits, WaitsForRoom}
+use Rattle.melt_safepoint.specs.Modes.{IsEnded, IsPaused, Waits, jobs}
 use Rattle.melt_safepoint.specs.Threads.{TakesReply, jobs_of, left, SomeGoesOn}
 use Rattle.melt_safepoint.proofs.Journals.{may_owe, MayOwe}
 
@@ -87,6 +87,9 @@ called_at {states} {later} {t} {s} {after} was is frees = λ x here. (
 -- a thread that waits for room has not ended
 pub room_goes : (states : List ThreadState) (t : ℕ) → WaitsForRoom states t → SomeGoesOn states
 room_goes states t waits = (t, (waits.0, waits.1, λ ended. subst IsEnded waits.2 ended))
+
+pub room_waits : (states : List ThreadState) (t : ℕ) → WaitsForRoom states t → OneWaits states
+room_waits states t waits = (t, (waits.0, waits.1, subst Waits (sym waits.2) tt))
 
 -- a thread that waits for room has not ended, so that one more collection may be unpaid
 pub room_owes : {unpaid : ℕ} (states : List ThreadState) (t : ℕ) → WaitsForRoom states t → unpaid ≤ 2

@@ -1,4 +1,5 @@
 -- The moment at which a run stands, as one of a collection, or one at which a thread lacks room.
+use Rattle.std.specs.Prelude.{◌≢◌, ◌%◌, ◌==◌, false}
 use Rattle.std.proofs.Common.{◌≡◌, ℕ, zero, suc, ◌+◌, ◌*◌, ◌<◌, ◌≤◌, true, cond, List, [], ◌∷◌, ◌++◌, length, take}
 use Rattle.std.proofs.Common.{drop, refl, sym, ◌∙◌, ap, subst, arith, ◌⊎◌, inl, inr}
 use Rattle.std.proofs.Math.ListN.{length-map}
@@ -33,7 +34,7 @@ use Rattle.melt_safepoint.specs.Needs.{NeedsWords}
 use Rattle.melt_safepoint.specs.Asked.{collections, total}
 use Rattle.melt_safepoint.specs.Counts.{CountsCollections, answers}
 use Rattle.melt_safepoint.specs.Cuts.{CountsBy, Cut, EndsWithCollect, IsCut, IsCutAt, IsDue, IsMoment, LacksRoom}
-use Rattle.melt_safepoint.specs.Cuts.{collection, open_by, replies_at, replies_by}
+use Rattle.melt_safepoint.specs.Cuts.{collection, due_by, is_due, replies_at, replies_by}
 use Rattle.melt_safepoint.specs.Threads.{with_first, HadCollect, OweAfterCollects, owing, replies_of}
 use Rattle.melt_safepoint.specs.Modes.{owes_silent, FitsMode, IsEnded, owes}
 use Rattle.melt_safepoint.specs.Endings.{gone_in, has_gone, now}
@@ -235,34 +236,60 @@ answers_now log (s ∷ states) =
     sum_first (λ (x : ThreadState). length x.replies.items) s states in
     first ∙ (ap (λ (k : ℕ). length s.replies.items + k) (answers_now log states) ∙ sym one)
 
--- a silent collection is still to come of a thread that has not ended
-owes_open : (mode : Mode) → owes mode ≤ (if has_gone mode then 0 else 1)
-owes_open Running = omega arith
-owes_open Due = omega arith
-owes_open Silent = omega arith
-owes_open Collecting = omega arith
-owes_open Asked = omega arith
-owes_open Lacking = omega arith
-owes_open (Ended e) = omega arith
+-- a silent collection is due
+due_is : (every count : ℕ) → every ≢ 0 → count ≢ 0 → count % every ≡ 0 → is_due every count ≡ true
+due_is zero count asked some divides = absurd (asked refl)
+due_is (suc every) zero asked some divides = absurd (some refl)
+due_is (suc every) (suc count) asked some divides = ap (λ (k : ℕ). k == 0) divides
 
-owing_open : (log : List Entry) (states : List ThreadState)
-    → owing states ≤ open_by (now log states) (length states)
-owing_open log [] = omega arith
-owing_open log (s ∷ states) =
-    let first : open_by (now log (s ∷ states)) (suc (length states))
-    ≡ (if has_gone s.mode then 0 else 1) + open_by (now log states) (length states) =
-    total_front (λ u. if gone_in (s ∷ states) u then 0 else 1) (length states) in
+-- where one is still to come of a thread, it has not ended, and one is due
+owes_due : (config : Config) (mode : Mode) (count : ℕ) → (owes_silent mode ≡ true → IsDue config count)
+    → owes mode ≤ (if has_gone mode then 0 else (if is_due config.every count then 1 else 0))
+owes_due config Running count due = omega arith
+owes_due config Due count due =
+    let is = due refl in
+    subst (λ (b : Bool). 1 ≤ (if b then 1 else 0)) (sym (due_is config.every count is.asked is.some is.divides))
+    (omega arith)
+owes_due config Silent count due =
+    let is = due refl in
+    subst (λ (b : Bool). 1 ≤ (if b then 1 else 0)) (sym (due_is config.every count is.asked is.some is.divides))
+    (omega arith)
+owes_due config Collecting count due = omega arith
+owes_due config Asked count due = omega arith
+owes_due config Lacking count due = omega arith
+owes_due config (Ended e) count due = omega arith
+
+-- a silent collection is still to come only of a thread of which one is due
+abbrev pub DueOf : Config → List ThreadState → Type 0
+DueOf config states = (t : ℕ) (s : ThreadState) → slice_get states t ≡ Some s → owes_silent s.mode ≡ true
+    → IsDue config (length s.replies.items)
+
+owing_due : (config : Config) (log : List Entry) (states : List ThreadState) → DueOf config states
+    → owing states ≤ due_by config (now log states) (length states)
+owing_due config log [] due = omega arith
+owing_due config log (s ∷ states) due =
+    let of : Bool → ℕ → ℕ = λ gone count. if gone then 0 else (if is_due config.every count then 1 else 0) in
+    let first : due_by config (now log (s ∷ states)) (suc (length states))
+    ≡ of (has_gone s.mode) (length s.replies.items) + due_by config (now log states) (length states) =
+    total_front (λ u. of (gone_in (s ∷ states) u) (length (replies_of (s ∷ states) u))) (length states) in
     let one : owing (s ∷ states) ≡ owes s.mode + owing states =
     sum_first (λ (x : ThreadState). owes x.mode) s states in
-    let more : owing (s ∷ states) ≤ (if has_gone s.mode then 0 else 1) + open_by (now log states) (length states) =
-    omega (arith, one, owes_open s.mode, owing_open log states) in
+    let more : owing (s ∷ states)
+    ≤ of (has_gone s.mode) (length s.replies.items) + due_by config (now log states) (length states) =
+    omega (
+      arith,
+      one,
+      owes_due config s.mode (length s.replies.items) (due 0 s refl),
+      owing_due config log states (λ t x at. due (suc t) x at),
+    ) in
     subst (λ (k : ℕ). owing (s ∷ states) ≤ k) (sym first) more
 
 -- the collections so far are counted at the moment
 pub counts_now : (script : Script) (config : Config) (unpaid : ℕ) (log : List Entry) (states : List ThreadState)
-    (made : ℕ) → length states ≡ length script.programs → CountsCollections script config unpaid states made
+    (made : ℕ) → length states ≡ length script.programs → DueOf config states
+    → CountsCollections script config unpaid states made
     → CountsBy script config (replies_of states) (now log states) made
-counts_now script config unpaid log states made count counts =
+counts_now script config unpaid log states made count due counts =
     let n : ℕ = length script.programs in
     let cut : Cut = now log states in
     let same : (t : ℕ) → replies_of states t ≡ replies_at (replies_of states) cut t =
@@ -270,14 +297,14 @@ counts_now script config unpaid log states made count counts =
     let all : collections script config (replies_of states) n
     ≡ collections script config (replies_at (replies_of states) cut) n =
     collections_same script config (replies_of states) (replies_at (replies_of states) cut) same n in
-    let owed : owing states ≤ open_by cut n =
-    subst (λ (k : ℕ). owing states ≤ open_by cut k) count (owing_open log states) in
+    let owed : owing states ≤ due_by config cut n =
+    subst (λ (k : ℕ). owing states ≤ due_by config cut k) count (owing_due config log states due) in
     let told : replies_by cut n ≡ answers states =
     ap (replies_by cut) (sym count) ∙ answers_now log states in
     record {
       asked = subst (λ (k : ℕ). k ≤ made)
           (asked_same script (replies_of states) (replies_at (replies_of states) cut) same n) counts.asked;
-      collected = subst (λ (k : ℕ). k ≤ made + open_by cut n) all (omega (arith, counts.collected, owed));
+      collected = subst (λ (k : ℕ). k ≤ made + due_by config cut n) all (omega (arith, counts.collected, owed));
       bounded = subst (λ (k : ℕ). made ≤ k + 3 * (replies_by cut n + n)) all
           (omega (arith, counts.bounded, counts.pays, told, count));
     }

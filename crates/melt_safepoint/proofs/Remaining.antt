@@ -12,6 +12,7 @@ use Rattle.melt_model.specs.declared.history.Entry.{Entry}
 use Rattle.melt_model.specs.declared.history.Value.{Value}
 use Rattle.melt_model.specs.declared.history.Value.TheVariants.{Nil}
 use Rattle.melt_model.specs.declared.operations.Op.{Op}
+use Rattle.melt_model.specs.declared.operations.Op.TheVariants.{Collect}
 use Rattle.melt_model.specs.declared.reports.Halt.{Halt}
 use Rattle.melt_model.specs.declared.reports.Halt.TheVariants as halt
 use Rattle.melt_model.specs.declared.reports.Journal.{Journal}
@@ -42,10 +43,14 @@ use Rattle.melt_safepoint.specs.declared.thread.Mode.TheVariants as mode
 use Rattle.melt_safepoint.specs.Threads.{AllEnded, AreHalted, SomeGoesOn, halted}
 use Rattle.melt_safepoint.specs.Journals.{MayMove, before, end_of}
 use Rattle.melt_safepoint.specs.Run.{answered, is_halted, lost_in, MayHalt, register_left, IsLeft, IsFull, HasLeft}
-use Rattle.melt_safepoint.specs.Run.{SomeHalted}
+use Rattle.melt_safepoint.specs.Run.{CanWait, OneWaited, SomeHalted}
 use Rattle.melt_safepoint.specs.Run.{HasRun, CountsFaults}
 use Rattle.melt_safepoint.specs.Shown.{Shown, Underlies}
-use Rattle.melt_safepoint.specs.Modes.{IsEnded, halted_mode}
+use Rattle.melt_safepoint.specs.Cuts.{IsDue}
+use Rattle.melt_safepoint.specs.Modes.{FitsMode, IsEnded, Waits, halted_mode, owes_silent}
+use Rattle.melt_safepoint.specs.Passing.{OneWaits}
+use Rattle.melt_safepoint.proofs.Collected.{waits_open}
+use Rattle.melt_safepoint.proofs.Moments.{next_op}
 use Rattle.melt_safepoint.specs.Endings.{EndsSo}
 use Rattle.melt_safepoint.specs.Losses.{losses}
 use Rattle.melt_safepoint.proofs.Cuts.{replies_here}
@@ -205,19 +210,19 @@ left_full {script} {disk} {v} {report} {heap} {need} table shows reports history
     }
 
 -- a thread that had not ended was halted
-some_halted : (states : List ThreadState) (ended : Ended) (report : Report) → AreHalted states ended.states.items
-    → Reported ended.states.items report.threads → SomeGoesOn states → SomeHalted report
-some_halted states ended report halts reported some =
-    let t : ℕ = some.0 in
-    let s : ThreadState = some.1.0 in
+halted_told : (states : List ThreadState) (ended : Ended) (report : Report) (t : ℕ) (s : ThreadState)
+    → AreHalted states ended.states.items → Reported ended.states.items report.threads → slice_get states t ≡ Some s
+    → (IsEnded s.mode → ⊥)
+    → (r : ThreadReport) × (slice_get report.threads t ≡ Some r) × (r.end ≡ end.Halted)
+halted_told states ended report t s halts reported at goes =
     let there : slice_get ended.states.items t ≡ Some (halted s) =
-    halted_at states ended.states.items t s halts some.1.1 in
+    halted_at states ended.states.items t s halts at in
     elim (slice_get_cases report.threads t).1 [
       | inl w ↦
           let so : halted_mode s.mode ≡ mode.Ended w.0.end = (reported.each t (halted s) w.0 there w.2).1 in
           elim (halted_cases s.mode) [
-            | inl stays ↦ absurd (some.1.2 (subst IsEnded (sym (sym stays ∙ so)) tt))
-            | inr goes ↦ (t, (w.0, w.2, same_end w.0.end end.Halted (sym so ∙ goes.1)))
+            | inl stays ↦ absurd (goes (subst IsEnded (sym (sym stays ∙ so)) tt))
+            | inr open_ ↦ (w.0, w.2, same_end w.0.end end.Halted (sym so ∙ open_.1))
           ]
       | inr w ↦ absurd (
           let below : t < length ended.states.items =
@@ -225,16 +230,60 @@ some_halted states ended report halts reported some =
           omega (arith, below, w.0, reported.count))
     ]
 
+some_halted : (states : List ThreadState) (ended : Ended) (report : Report) → AreHalted states ended.states.items
+    → Reported ended.states.items report.threads → SomeGoesOn states → SomeHalted report
+some_halted states ended report halts reported some =
+    (some.0, halted_told states ended report some.0 some.1.0 halts reported some.1.1 some.1.2)
+
+-- what a thread that waits for a collection has next
+can_wait : (script : Script) (config : Config) (t count : ℕ) (m : Mode) (op : Option Op) → Waits m → FitsMode m op
+    → (owes_silent m ≡ true → IsDue config count)
+    → ((o : Op) → op ≡ Some o → slice_get (operations script t) count ≡ Some o) → CanWait script config t count
+can_wait script config t count mode.Running op waits fits due next = absurd waits
+can_wait script config t count mode.Due op waits fits due next = absurd waits
+can_wait script config t count mode.Silent op waits fits due next = inl (due refl)
+can_wait script config t count mode.Collecting op waits fits due next = inr (Collect, next Collect fits, inl refl)
+can_wait script config t count mode.Asked op waits fits due next = absurd waits
+can_wait script config t count mode.Lacking None waits fits due next = absurd (let none = fits.0 in cc)
+can_wait script config t count mode.Lacking (Some o) waits fits due next = inr (o, next o refl, inr fits.2)
+can_wait script config t count (mode.Ended e) op waits fits due next = absurd waits
+
+-- a thread that waited for a collection was halted
+one_waited : {told : Bool} {script : Script} {config : Config} {disk : OnDisk} {v : View} {states : List ThreadState}
+    (ended : Ended) (report : Report) → TableStands told script config disk v states
+    → AreHalted states ended.states.items → Reported ended.states.items report.threads → OneWaits states
+    → OneWaited script config report
+one_waited {script} {config} {states} ended report table halts reported waits =
+    let t : ℕ = waits.0 in
+    let s : ThreadState = waits.1.0 in
+    let at : slice_get states t ≡ Some s = waits.1.1 in
+    let was = halted_told states ended report t s halts reported at (waits_open s.mode waits.1.2) in
+    let r : ThreadReport = was.0 in
+    let replies : r.replies ≡ s.replies.items =
+    (reported.each t (halted s) r (halted_at states ended.states.items t s halts at) was.1).0 in
+    let same : length s.replies.items ≡ length r.replies = ap length (sym replies) in (
+      t,
+      (
+        r,
+        was.1,
+        was.2,
+        can_wait script config t (length r.replies) s.mode s.op waits.1.2
+            (table.each t s at).fits (λ owes. subst (IsDue config) same (table.due t s at owes))
+            (λ o is. subst (λ (k : ℕ). slice_get (operations script t) k ≡ Some o)
+            (ap length (replies_here states t s at) ∙ same) (next_op t table at is)),
+      ),
+    )
+
 -- why the run was halted
-may_halt : {told : Bool} {config : Config} {seen : Shown} {disk : OnDisk} {v : View} {ended : Ended} (report : Report)
-    {finish need limit : ℕ} → report.journal ≡ ended.journal.items
-    → EndsFull told config seen disk v ended finish need limit → SomeHalted report
-    → MayHalt config report (Some (halt.DiskFull finish need limit))
-may_halt {config} {ended} report journal full some =
+may_halt : {told : Bool} (script : Script) {config : Config} {seen : Shown} {disk : OnDisk} {v : View}
+    {ended : Ended} (report : Report) {finish need limit : ℕ} → report.journal ≡ ended.journal.items
+    → EndsFull told config seen disk v ended finish need limit → OneWaited script config report
+    → MayHalt script config report (Some (halt.DiskFull finish need limit))
+may_halt script {config} {ended} report journal full waited =
     let last : before ended.journal.items (length ended.journal.items)
     ≡ before report.journal (length report.journal) =
     ap (λ (js : List Journal). before js (length js)) (sym journal) in
-    (full.limit_is, full.above, full.end_last ∙ ap end_of last, subst (MayMove config) last full.may_move, some)
+    (full.limit_is, full.above, full.end_last ∙ ap end_of last, subst (MayMove config) last full.may_move, waited)
 
 -- The parts of a report that are those of what was left.
 pub record ReportOf (ended : Ended) (report : Report) : Type 0 where
@@ -252,7 +301,7 @@ ran {told} {script} {config} {seen} {ended} {report} stands is None (Some heap) 
     let reports : Reports stands.states ended report =
     reports_ended stands.states ended report cause.1 is.threads is.journal is.log in
     record {
-      reported = step_report stands reports (subst (MayHalt config report) (sym halts) tt);
+      reported = step_report stands reports (subst (MayHalt script config report) (sym halts) tt);
       left = subst (λ (o : Option Halt). HasLeft told script config seen report o (Some heap)) (sym halts)
           (left_heap seen report stands.table cause.2 cause.3 (is.log ∙ stands.log));
     }
@@ -262,9 +311,9 @@ ran {told} {script} {config} {seen} {ended} {report} stands is (Some (halt.DiskF
     reports_halted stands.states ended report cause.0 is.threads
     (subst IsSome (sym halts) refl) is.journal is.log in
     record {
-      reported = step_report stands reports (subst (MayHalt config report) (sym halts)
-          (may_halt report is.journal cause.3 (some_halted stands.states ended report cause.0 is.threads
-          (stands.halts (subst IsSome (sym halts ∙ is.halt) refl)))));
+      reported = step_report stands reports (subst (MayHalt script config report) (sym halts)
+          (may_halt script report is.journal cause.3
+          (one_waited ended report stands.table cause.0 is.threads cause.4)));
       left = subst (λ (o : Option Halt). HasLeft told script config seen report o (Some heap)) (sym halts) (
         left_heap seen report stands.table cause.1 cause.2 (is.log ∙ stands.log),
         λ so. left_full (as_told told script config stands.disk stands.v stands.states so stands.table) cause.1 reports
@@ -277,7 +326,7 @@ ran {told} {script} {config} {seen} {ended} {report} stands is (Some halt.DiskFa
     reports_halted stands.states ended report cause is.threads
     (subst IsSome (sym halts) refl) is.journal is.log in
     record {
-      reported = step_report stands reports (subst (MayHalt config report) (sym halts)
+      reported = step_report stands reports (subst (MayHalt script config report) (sym halts)
           (some_halted stands.states ended report cause is.threads
           (stands.halts (subst IsSome (sym halts ∙ is.halt) refl))));
       left = subst (λ (o : Option Halt). HasLeft told script config seen report o None) (sym halts) tt;

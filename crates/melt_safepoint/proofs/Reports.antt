@@ -234,7 +234,7 @@ lacked_of {states} {ended} {report} reports t held_words need s at is =
 -- the report has the replies and the end of each thread, the journal and the history
 pub step_report : {told : Bool} {script : Script} {config : Config} {shown : Shown} {ended : Ended} {report : Report}
     (stands : EndedStands told script config shown ended) → Reports stands.states ended report
-    → MayHalt config report report.halt → IsStepReport told script config report
+    → MayHalt script config report report.halt → IsStepReport told script config report
 step_report {told} {script} {config} {ended} {report} stands reports halts =
     let states : List ThreadState = stands.states in
     let v : View = stands.v in

@@ -122,6 +122,7 @@ ended_untold {told} {script} {config} {shown} {ended} stands = record {
         may_move = by.3.may_move;
         needs = λ (is : false ≡ true). absurd (cc);
       },
+      by.4,
     )
     by_untold (Some halt.DiskFault) None by = by
     by_untold None None by = by

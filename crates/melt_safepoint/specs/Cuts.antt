@@ -1,5 +1,5 @@
 -- Moments of a run: what stood in its history, and what its threads held.
-use Rattle.std.specs.Prelude.{◌≡◌, ◌≢◌, ℕ, suc, ◌+◌, ◌*◌, ◌%◌, ◌<◌, ◌≤◌, ◌⊎◌, Bool, true, false, if◌then◌else◌, List}
+use Rattle.std.specs.Prelude.{◌≡◌, ◌≢◌, ◌==◌, ℕ, zero, suc, ◌+◌, ◌*◌, ◌%◌, ◌<◌, ◌≤◌, ◌⊎◌, Bool, true, false, if◌then◌else◌, List}
 use Rattle.std.specs.Prelude.{length}
 use Rattle.std.specs.Prelude.{take, slice_get, Some}
 use Rattle.std.specs.List.{count_by}
@@ -128,21 +128,29 @@ pub record NotAfter (one other : Cut) : Type 0 where
 abbrev pub replies_at : (ℕ → List Reply) → Cut → ℕ → List Reply
 replies_at replies cut t = take (cut.replies t) (replies t)
 
--- how many replies the first n threads had at the moment, and how many of these had not ended
+-- how many replies the first n threads had at the moment
 abbrev pub replies_by : Cut → ℕ → ℕ
 replies_by cut n = total cut.replies n
 
-abbrev pub open_by : Cut → ℕ → ℕ
-open_by cut n = total (λ t. if cut.ended t then 0 else 1) n
+-- whether a silent collection is due after so many replies
+abbrev pub is_due : (every count : ℕ) → Bool
+is_due zero count = false
+is_due (suc every) zero = false
+is_due (suc every) (suc count) = suc count % suc every == 0
+
+-- how many of the first n threads had not ended at the moment, and could have a silent collection still to come
+abbrev pub due_by : Config → Cut → ℕ → ℕ
+due_by config cut n =
+    total (λ t. if cut.ended t then 0 else (if is_due config.every (cut.replies t) then 1 else 0)) n
 
 -- So many collections had been made at the moment: no fewer than `collect`s had been answered; no fewer than these and
--- the silent ones that had fallen due, but for one of each thread that had not ended; and no more than these and three
--- for each reply and each thread.
+-- the silent ones that had fallen due, but for one of each thread that had not ended and of which one fell due with its
+-- last reply; and no more than these and three for each reply and each thread.
 pub record CountsBy (script : Script) (config : Config) (replies : ℕ → List Reply) (cut : Cut) (made : ℕ)
     : Type 0 where
   pub asked : collects script (replies_at replies cut) (length script.programs) ≤ made
   pub collected : collections script config (replies_at replies cut) (length script.programs)
-      ≤ made + open_by cut (length script.programs)
+      ≤ made + due_by config cut (length script.programs)
   pub bounded : made ≤ collections script config (replies_at replies cut) (length script.programs)
       + 3 * (replies_by cut (length script.programs) + length script.programs)
 

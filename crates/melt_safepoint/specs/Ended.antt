@@ -14,6 +14,7 @@ use Rattle.melt_safepoint.specs.Collections.{ShowsHeap}
 use Rattle.melt_safepoint.specs.Journals.{IsJournalOf, MayMove, before, end_of}
 use Rattle.melt_safepoint.specs.Counts.{CountsCollections}
 use Rattle.melt_safepoint.specs.Made.{MakesWithin}
+use Rattle.melt_safepoint.specs.Passing.{OneWaits}
 use Rattle.melt_safepoint.specs.Shown.{Shown, Underlies}
 use Rattle.melt_safepoint.specs.Endings.{HaveMoments}
 use Rattle.melt_safepoint.specs.Tables.{TableStands}
@@ -40,7 +41,7 @@ EndsBy told config shown disk v states ended None (Some heap) =
     AllEnded states × (ended.states.items ≡ states) × ShowsHeap heap v × Underlies told shown.end shown.image disk
 EndsBy told config shown disk v states ended (Some (halt.DiskFull finish need limit)) (Some heap) =
     AreHalted states ended.states.items × ShowsHeap heap v × Underlies told shown.end shown.image disk
-    × EndsFull told config shown disk v ended finish need limit
+    × EndsFull told config shown disk v ended finish need limit × OneWaits states
 EndsBy told config shown disk v states ended (Some halt.DiskFault) None = AreHalted states ended.states.items
 EndsBy told config shown disk v states ended None None = ⊥
 EndsBy told config shown disk v states ended (Some (halt.DiskFull finish need limit)) None = ⊥

@@ -22,7 +22,7 @@ use Rattle.melt_safepoint.specs.Lends.{LendsFew, LendsTwice}
 use Rattle.melt_safepoint.specs.Losses.{CountsLosses}
 use Rattle.melt_safepoint.specs.Modes.{ForCollection, collections_for}
 use Rattle.melt_safepoint.specs.Needs.{NeedsWords}
-use Rattle.melt_safepoint.specs.Passing.{NoneOwn, WaitsForRoom}
+use Rattle.melt_safepoint.specs.Passing.{NoneOwn, WaitsForRoom, OneWaits}
 use Rattle.melt_safepoint.specs.Shown.{Shown, Underlies}
 use Rattle.melt_safepoint.specs.Tables.{TableStands}
 use Rattle.melt_safepoint.specs.Threads.{OweAfterCollects, collections_due, SomeGoesOn}
@@ -139,11 +139,12 @@ StopsBut shown later old stop =
     StopsFrom (λ told script config. ((unpaid : ℕ) × StandsBut unpaid told script config shown old)
     × SomeGoesOn old.states) later stop
 
--- and so where a collection was to be made, which may be forced only where an object might have no room
+-- and so where a collection was to be made, for which some thread waits, and which may be forced only where an object
+-- might have no room
 abbrev pub StopsForced : Bool → Shown → Shown → Row → Stop → Type 0
 StopsForced force shown later old stop =
     StopsFrom (λ told script config. ((unpaid : ℕ) × StandsBut unpaid told script config shown old)
-    × (force ≡ true → IsTight config (last_of old.collector)) × SomeGoesOn old.states) later stop
+    × (force ≡ true → IsTight config (last_of old.collector)) × OneWaits old.states) later stop
 
 -- and so where a run was stopped
 abbrev pub StopLends : (readers more lends lends_after : ℕ) → List Journal → Stop → Type 0

@@ -11,6 +11,7 @@ use Rattle.melt_model.specs.declared.history.Entry.{Entry}
 use Rattle.melt_model.specs.declared.history.Value.{Value}
 use Rattle.melt_model.specs.declared.history.Value.TheVariants.{Nil}
 use Rattle.melt_model.specs.declared.operations.Op.{Op}
+use Rattle.melt_model.specs.declared.operations.Op.TheVariants.{Collect}
 use Rattle.melt_model.specs.declared.operations.Reply.{Reply}
 use Rattle.melt_model.specs.declared.reports.Halt.{Halt}
 use Rattle.melt_model.specs.declared.reports.Halt.TheVariants as halt
@@ -31,10 +32,10 @@ use Rattle.melt_core.specs.Advances.{Breaks}
 use Rattle.melt_core.specs.declared.call.Stage.{Stage}
 use Rattle.melt_safepoint.specs.Journals.{IsJournalOf, MayMove, before, end_of}
 use Rattle.melt_safepoint.specs.Made.{MakesWithin}
-use Rattle.melt_safepoint.specs.Needs.{IsLoad}
+use Rattle.melt_safepoint.specs.Needs.{CanLackRoom, IsLoad}
 use Rattle.melt_safepoint.specs.Shown.{Shown, Underlies}
 use Rattle.melt_safepoint.specs.Asked.{collects, collections}
-use Rattle.melt_safepoint.specs.Cuts.{Occasion, AreMoments, IsAmong, Moment}
+use Rattle.melt_safepoint.specs.Cuts.{Occasion, AreMoments, IsAmong, IsDue, Moment}
 
 -- The threads' replies are those of one legal history of a heap that never collects, which holds the calls
 -- of each thread once and in order, and no others.
@@ -105,14 +106,25 @@ lost_in report = count_by (λ (r : ThreadReport). is_lost r.end) report.threads
 abbrev pub SomeHalted : Report → Type 0
 SomeHalted report = (t : ℕ) × ((r : ThreadReport) × (slice_get report.threads t ≡ Some r) × (r.end ≡ end.Halted))
 
--- Why a run may have been halted: by a disk that was full for a Move, which was planned or forced, or by one that
--- failed. Some thread had not ended then.
-abbrev pub MayHalt : Config → Report → Option Halt → Type 0
-MayHalt config report None = Unit {0}
-MayHalt config report (Some (halt.DiskFull end need limit)) = (limit ≡ config.disk) × (limit < end + need)
+-- A thread with so many replies can have waited for a collection: a silent one was due, or its next operation is one, or
+-- can lack room.
+abbrev pub CanWait : Script → Config → ℕ → ℕ → Type 0
+CanWait script config t count = IsDue config count
+    ⊎ ((op : Op) × (slice_get (operations script t) count ≡ Some op) × ((op ≡ Collect) ⊎ CanLackRoom op))
+
+-- such a thread was halted
+abbrev pub OneWaited : Script → Config → Report → Type 0
+OneWaited script config report = (t : ℕ) × ((r : ThreadReport) × (slice_get report.threads t ≡ Some r)
+    × (r.end ≡ end.Halted) × CanWait script config t (length r.replies))
+
+-- Why a run may have been halted: by a disk that was full for a Move, which was planned or forced, where a thread waited
+-- for a collection; or by one that failed, where some thread had not ended.
+abbrev pub MayHalt : Script → Config → Report → Option Halt → Type 0
+MayHalt script config report None = Unit {0}
+MayHalt script config report (Some (halt.DiskFull end need limit)) = (limit ≡ config.disk) × (limit < end + need)
     × (end ≡ end_of (before report.journal (length report.journal)))
-    × MayMove config (before report.journal (length report.journal)) × SomeHalted report
-MayHalt config report (Some halt.DiskFault) = SomeHalted report
+    × MayMove config (before report.journal (length report.journal)) × OneWaited script config report
+MayHalt script config report (Some halt.DiskFault) = SomeHalted report
 
 -- What a run reports of a trace, over a disk that tells its words or not. Its history is a value of the report. The
 -- journal has the collections, each of its phase: those that threads asked for, the silent ones, but for one of each
@@ -124,7 +136,7 @@ pub record IsStepReport (told : Bool) (script : Script) (config : Config) (repor
   pub moments : List Moment
   pub ends : (t : ℕ) (r : ThreadReport) → slice_get report.threads t ≡ Some r
       → MayEnd told script config moments report t r.end
-  pub halt : MayHalt config report report.halt
+  pub halt : MayHalt script config report report.halt
   pub journal : IsJournalOf config report.journal
   pub are_moments : told ≡ true
       → AreMoments script report.history (replies_in report) config report.journal moments

@@ -2,7 +2,7 @@
 use Rattle.std.proofs.Common.{◌≡◌, List, Vec, Global, ◌∙◌, ap}
 use Rattle.melt_model.specs.declared.reports.Journal.{Journal}
 use Rattle.melt_move.specs.Planned.{phase_done}
-use Rattle.melt_safepoint.proofs.Collected.{refused_failed, refused_full, stands_failed, stands_full}
+use Rattle.melt_safepoint.proofs.Collected.{refused_failed, refused_full, stands_failed, stands_full, waits_goes}
 use Rattle.melt_safepoint.proofs.Journals.{halted_counts}
 use Rattle.melt_safepoint.proofs.run.Run.collect.Goals as goal
 
@@ -37,7 +37,7 @@ returns-clause-stop_keeps g c =
 
 pub returns-clause-stopped : goal.returns-clause-stopped
 returns-clause-stopped g c = λ told script config before.
-    stands_failed _ before.0.1 before.2 (refused_failed (phase_done c.args.force c.args.self.collector.plan.next) _ _ _ _ _
+    stands_failed _ before.0.1 (waits_goes _ before.2) (refused_failed (phase_done c.args.force c.args.self.collector.plan.next) _ _ _ _ _
     c.in-Err-DiskFault.field-0-is c.in-Err-DiskFault.ensures.refused) (record {
       left_is = c.halt_run-in-Err-DiskFault.ensures.left;
       states = c.halt_run-in-Err-DiskFault.ensures.states;

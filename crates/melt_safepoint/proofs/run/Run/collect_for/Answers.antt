@@ -8,7 +8,7 @@ use Rattle.melt_safepoint.specs.declared.thread.Mode.{Mode}
 use Rattle.melt_safepoint.specs.declared.thread.Mode.TheVariants.{Collecting, Silent}
 use Rattle.melt_safepoint.specs.declared.thread.ThreadState.{ThreadState}
 use Rattle.melt_safepoint.specs.Passing.{CollectedFor}
-use Rattle.melt_safepoint.specs.Modes.{ForCollection, IsEnded}
+use Rattle.melt_safepoint.specs.Modes.{ForCollection, Waits}
 use Rattle.melt_safepoint.specs.Rows.{MakesFor, Row, row_of}
 use Rattle.melt_safepoint.proofs.Collected.{may_collect}
 use Rattle.melt_safepoint.proofs.Collections.{other_stays, taken_fewer, taken_losses, waits_none}
@@ -30,10 +30,10 @@ read : (g : Over) (c : After-index g) → slice_get c.args.self.states.items c.a
 read g c = slice_get_read c.args.self.states.items
     (length c.args.self.states.items) c.args.thread c.index.result.now refl c.requires.thread c.index.ensures
 
--- a thread that waits for a collection has not ended
-waiting_goes : (mode : Mode) → (mode ≡ Collecting) ⊎ (mode ≡ Silent) → IsEnded mode → ⊥
-waiting_goes mode (inl own) over = subst IsEnded own over
-waiting_goes mode (inr silent) over = subst IsEnded silent over
+-- a thread waits for a collection of its own
+waits_for : (mode : Mode) → (mode ≡ Collecting) ⊎ (mode ≡ Silent) → Waits mode
+waits_for mode (inl own) = subst Waits (sym own) tt
+waits_for mode (inr silent) = subst Waits (sym silent) tt
 
 pub returns-in_default : goal.returns-in_default
 returns-in_default g c =
@@ -81,7 +81,7 @@ returns-in_err-run-clause-stopped g c =
       (
         c.index.result.now,
         read g (goal.at.returns-in_err-run-clause-stopped g c).After-index,
-        waiting_goes c.index.result.now.mode
+        waits_for c.index.result.now.mode
             c.in-Collecting.is,
       ),
     ) c.in_err-run.ensures.stopped)

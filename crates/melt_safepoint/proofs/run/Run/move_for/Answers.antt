@@ -19,7 +19,7 @@ use Rattle.melt_safepoint.proofs.Collected.{journal_more, may_collect, moved_one
 use Rattle.melt_safepoint.proofs.Composing.{stop_counts_then}
 use Rattle.melt_safepoint.proofs.Epochs.{goes_journal, goes_keeps, goes_less, goes_rests}
 use Rattle.melt_safepoint.proofs.Gone.{gone_less, gone_own, gone_settled}
-use Rattle.melt_safepoint.proofs.Lacking.{room_goes}
+use Rattle.melt_safepoint.proofs.Lacking.{room_waits}
 use Rattle.melt_safepoint.proofs.Lends.{lends_more, lends_none, lends_one, lends_after, lends_then}
 use Rattle.melt_safepoint.proofs.Losses.{counts_same, counts_then}
 use Rattle.melt_safepoint.proofs.StopLends.{stop_after, stop_more, stop_one, stop_since, stop_then}
@@ -68,7 +68,7 @@ returns-in_err-moved-clause-stopped g c =
     c.in_err-moved.ensures.stopped told script config (
       (suc c.loop-forced.forced, still.stands),
       λ is. still.tight,
-      room_goes c.loop-forced.run.states.items c.args.thread still.waits,
+      room_waits c.loop-forced.run.states.items c.args.thread still.waits,
     ))
 
 -- after one Move more the thread awaits its call

@@ -17,7 +17,7 @@ use Rattle.melt_safepoint.proofs.Collected.{may_collect}
 use Rattle.melt_safepoint.proofs.Composing.{BeforeCall, awaits_call, before_made, before_same, stop_counts_then}
 use Rattle.melt_safepoint.proofs.Composing.{begins_rest, stops_planned, stops_rest, stops_there}
 use Rattle.melt_safepoint.proofs.Epochs.{goes_journal, goes_keeps, goes_less, goes_rests, someone_waits}
-use Rattle.melt_safepoint.proofs.Lacking.{room_goes}
+use Rattle.melt_safepoint.proofs.Lacking.{room_goes, room_waits}
 use Rattle.melt_safepoint.proofs.Lends.{lends_after, lends_one, lends_since, lends_twice, planned_longer}
 use Rattle.melt_safepoint.proofs.Losses.{CountsBefore, counts_made, counts_same, counts_then}
 use Rattle.melt_safepoint.proofs.OwnCollections.{own_due, own_less}
@@ -203,7 +203,7 @@ returns-in_err-run-2-clause-stopped g c =
     (stops_there _ _ _ (row_of g.E.Machine.view c.args.self) (row_of g.E.Machine.view c.in_ok-run.run') _
     c.in_ok-run.ensures.keeps
     (stops_planned _ _ (row_of g.E.Machine.view c.in_ok-run.run') _
-    (room_goes c.in_ok-run.run'.states.items c.in-Some.thread c.in-Some.ensures.some) c.in_err-run-2.ensures.stopped)))
+    (room_waits c.in_ok-run.run'.states.items c.in-Some.thread c.in-Some.ensures.some) c.in_err-run-2.ensures.stopped)))
 
 pub returns-in_err-run-2-clause-stop_counts : goal.returns-in_err-run-2-clause-stop_counts
 returns-in_err-run-2-clause-stop_counts g c =
