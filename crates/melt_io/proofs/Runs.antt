@@ -21,7 +21,7 @@ length-word_bytes (word ∷ words) =
     omega (arith, length-append (little_bytes 8 word) (word_bytes words), here, length-word_bytes words)
 
 -- a piece, and then the one after it
-with_words-append : (image : List ℕ) (at : ℕ) (first second : List ℕ)
+pub with_words-append : (image : List ℕ) (at : ℕ) (first second : List ℕ)
     → with_words (with_words image at first) (at + length first) second ≡ with_words image at (first ++ second)
 with_words-append image at first second =
     let front : List ℕ = take at (image ++ replicate at 0) in

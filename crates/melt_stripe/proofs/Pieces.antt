@@ -6,31 +6,10 @@ use Rattle.std.proofs.lemmas.List.{drop-drop, length-take-le, take_at}
 use Rattle.std.proofs.Math.Seq.{drop-append-add, take-add}
 use Rattle.melt_io.specs.Outside.{KeepsOthers, SameOutside, Writes, with_words, words_at}
 use Rattle.melt_io.proofs.Images.{length-front, with_words-outside}
-use Rattle.melt_io.proofs.Runs.{WritesSoFar, writes-so_far}
+use Rattle.melt_io.proofs.Runs.{WritesSoFar, with_words-append, writes-so_far}
 use Rattle.melt_stripe.proofs.Reading.{words_at-append}
 
 -- a piece, and then the one after it
-with_words-append : (image : List ℕ) (at : ℕ) (first second : List ℕ)
-    → with_words (with_words image at first) (at + length first) second ≡ with_words image at (first ++ second)
-with_words-append image at first second =
-    let front : List ℕ = take at (image ++ replicate at 0) in
-    let end : ℕ = at + length first in
-    let rest : List ℕ = drop end image in
-    let mid : List ℕ = front ++ first ++ rest in
-    let len : length (front ++ first) ≡ end = length-append front first
-    ∙ ap (λ n. n + length first) (length-front image at) in
-    let before : take end (mid ++ replicate end 0) ≡ front ++ first
-    = ap (λ words. take end words) (append_assoc (front ++ first) rest (replicate end 0))
-    ∙ take_at (front ++ first) (rest ++ replicate end 0) end len in
-    let past : drop (end + length second) mid ≡ drop (end + length second) image
-    = ap (λ n. drop (n + length second) mid) (sym len) ∙ drop-append-add (front ++ first) rest (length second)
-    ∙ drop-drop (length second) end image in
-    let whole : end + length second ≡ at + length (first ++ second) = omega (arith, length-append first second) in
-    ap (λ words. words ++ second ++ drop (end + length second) mid) before
-    ∙ ap (λ words. front ++ first ++ second ++ words) past
-    ∙ ap (λ words. words ++ drop (end + length second) image) (append_assoc front first second)
-    ∙ ap (λ n. front ++ (first ++ second) ++ drop n image) whole
-
 writes_append : (old mid new : Option (List ℕ)) (at : ℕ) (first second : List ℕ) → Writes old at first mid
     → Writes mid (at + length first) second new → Writes old at (first ++ second) new
 writes_append None None None at first second one two = tt
