@@ -7,7 +7,7 @@ use melt_model::{Config, Report};
 use melt_pool::run_threads;
 
 /// How often a thread looks for the other before it goes on without it.
-const HOLD: u32 = 1_000_000_000;
+const HOLD: u32 = 100_000_000;
 
 /// A gate that holds each of two threads before its operation of this number, until the other has come there too. It
 /// counts the threads that it held in vain.
