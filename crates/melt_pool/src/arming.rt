@@ -67,6 +67,7 @@ pub(crate) fn lend_all<'a, D: StaleDisk>(
     ensures count { D.faults space.old.disk.now ≤ D.faults space.new.disk.now }
     ensures read_faults { D.read_faults space.new.disk.now ≡ D.read_faults space.old.disk.now }
     ensures lends { LendsAtMost (length mutators.old) (D.lends space.old.disk.now) (D.lends space.new.disk.now) }
+    ensures writes { D.writes space.new.disk.now ≡ D.writes space.old.disk.now }
     ensures end { space.new.end ≡ space.old.end }
     ensures limit { space.new.limit ≡ space.old.limit }
     ensures same_disk { space.new.disk.ghost_name ≡ space.old.disk.ghost_name }
@@ -117,6 +118,7 @@ pub(crate) fn take_back<'a, D: StaleDisk>(
     ensures image { D.image space.new.disk.now ≡ D.image space.old.disk.now }
     ensures count { D.faults space.new.disk.now ≡ D.faults space.old.disk.now }
     ensures lends { D.lends space.new.disk.now ≡ D.lends space.old.disk.now }
+    ensures writes { D.writes space.new.disk.now ≡ D.writes space.old.disk.now }
     ensures end { space.new.end ≡ space.old.end }
     ensures limit { space.new.limit ≡ space.old.limit }
     ensures same_disk { space.new.disk.ghost_name ≡ space.old.disk.ghost_name }

@@ -33,7 +33,7 @@ pub(crate) fn collect_parallel<'a, D: StaleDisk>(
     force: bool,
 ) -> Result<Parallel<'a, D::Reader>, CollectRefusal>
     requires may { MayCollect space.old.end (parallel_view machine) }
-    ensures so { CollectsSo parallel_view (λ _. []) (sees_stale D.image D.faults D.read_faults D.lends) machine.entry
+    ensures so { CollectsSo parallel_view (λ _. []) (sees_stale D.image D.faults D.read_faults D.lends D.writes) machine.entry
         collector.old collector.new space.old space.new force result }
 {
     let Parallel {

@@ -18,6 +18,7 @@ ghost use Rattle.melt_safepoint.specs.Run.{CountsFaults, CountsLends, HasNoOpera
 ghost use Rattle.melt_safepoint.specs.Shown.{Shown, shown_by};
 ghost use Rattle.melt_safepoint.specs.Spaces.{sees_stale};
 ghost use Rattle.melt_safepoint.specs.Threads.{AllEnded};
+ghost use Rattle.melt_safepoint.specs.Writes.{CountsWrites};
 ghost use Rattle.melt_pool.specs.Machines.{AreReady, MachineEnds, SomeMachineMayRun, parallel_view};
 ghost use Rattle.melt_pool.specs.Parts.{AreAway, IsNameless, parts_view};
 
@@ -71,6 +72,7 @@ fn go_through<'a, X: Threads + Sync, D: StaleDisk, G: Gate + Sync>(
     ensures shown { shown_by D.image space.new ≡ shown_by D.image space.old }
     ensures count { D.faults space.new.disk.now ≡ D.faults space.old.disk.now }
     ensures lends { D.lends space.new.disk.now ≡ D.lends space.old.disk.now }
+    ensures writes { D.writes space.new.disk.now ≡ D.writes space.old.disk.now }
     ensures same_disk { space.new.disk.ghost_name ≡ space.old.disk.ghost_name }
 {
     hand_out(states, mutators);
@@ -91,7 +93,7 @@ fn run_parallel<'a, X: Threads + Sync, D: StaleDisk, G: Gate + Sync>(
     first: Option<u32>,
 ) -> Result<(Run<'a, Parallel<'a, D::Reader>>, Option<u32>), Stop<'a>>
     requires may { SomeMayRun (shown_by D.image space.old) first (row_of parallel_view run) }
-    ensures so { RunsSo parallel_view (λ _. []) (sees_stale D.image D.faults D.read_faults D.lends) run.entry space.old
+    ensures so { RunsSo parallel_view (λ _. []) (sees_stale D.image D.faults D.read_faults D.lends D.writes) run.entry space.old
         space.new first result }
     ensures lends { LendsAtMost 8 (D.lends space.old.disk.now) (D.lends space.new.disk.now) }
 {
@@ -204,6 +206,10 @@ fn run_epochs<'a, X: Threads + Sync, D: StaleDisk, G: Gate + Sync>(
         (D.faults space.new.disk.now) (D.read_faults space.old.disk.now) (D.read_faults space.new.disk.now)) }
     ensures lends { IfOk result (λ done. (script : Script) → (HasNoOperations script → AllEnded run.entry.states.items)
         → CountsLends 8 script done.0 (D.lends space.old.disk.now) (D.lends space.new.disk.now)) }
+    ensures wrote { IfOk result (λ done. (told : Bool) (script : Script) (config : Config)
+        → RunStands told script config (shown_by D.image space.old) (row_of parallel_view run.entry)
+        → CountsWrites config done.0.halt done.0.journal (D.writes space.old.disk.now)
+        (D.writes space.new.disk.now)) }
     ensures log { IfOk result (λ done. done.0.log ≡ []) }
 {
     let engine = Engine {
@@ -212,12 +218,12 @@ fn run_epochs<'a, X: Threads + Sync, D: StaleDisk, G: Gate + Sync>(
             D,
         >, force: bool|
             requires may { MayCollect (shown_by D.image space.old).end (parallel_view machine) }
-            ensures collects { CollectsSo parallel_view (λ _. []) (sees_stale D.image D.faults D.read_faults D.lends)
+            ensures collects { CollectsSo parallel_view (λ _. []) (sees_stale D.image D.faults D.read_faults D.lends D.writes)
                 machine.entry collector.old collector.new space.old space.new force result }
         { collect_parallel(machine, alloc, collector, space, force) },
         run_epoch: |run: _, alloc: Global, space: &mut StaleSpace<'_, D>, first: Option<u32>|
             requires may { SomeMayRun (shown_by D.image space.old) first (row_of parallel_view run) }
-            ensures runs { RunsSo parallel_view (λ _. []) (sees_stale D.image D.faults D.read_faults D.lends) run.entry
+            ensures runs { RunsSo parallel_view (λ _. []) (sees_stale D.image D.faults D.read_faults D.lends D.writes) run.entry
                 space.old space.new first result }
             ensures lends { LendsAtMost 8 (D.lends space.old.disk.now) (D.lends space.new.disk.now) }
         { run_parallel(rt, gate, run, alloc, space, first) },
@@ -249,6 +255,8 @@ pub fn run_threads<X: Threads + Sync, D: StaleDisk, G: Gate + Sync>(
         (D.faults space.new.disk.now) (D.read_faults space.old.disk.now) (D.read_faults space.new.disk.now)) }
     ensures lends { IfOk result (λ done. CountsLends 8 trace.now done.0 (D.lends space.old.disk.now)
         (D.lends space.new.disk.now)) }
+    ensures wrote { IfOk result (λ done. CountsWrites config done.0.halt done.0.journal (D.writes space.old.disk.now)
+        (D.writes space.new.disk.now)) }
     ensures log { IfOk result (λ done. done.0.log ≡ []) }
 {
     let run = new_run::<D::Reader>(alloc, trace, config, tells(space))?;

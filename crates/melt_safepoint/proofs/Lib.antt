@@ -46,3 +46,4 @@ pub mod ToDo
 pub mod TwoMoves
 pub mod Untold
 pub mod WordsMade
+pub mod Writes

@@ -1,6 +1,7 @@
 -- A Move that the disk had no room for leaves the heap settled: all stands as before, and the words that the new homes
 -- need are told.
-use Rattle.std.proofs.Common.{◌≡◌, ℕ, ◌+◌, ◌<◌, List, length, refl, sym, ◌∙◌, ap, subst, arith, Bool, true}
+use Rattle.std.proofs.Common.{◌≡◌, ℕ, ◌+◌, ◌<◌, ◌≤◌, List, length, refl, sym, ◌∙◌, ap, subst, arith, Bool, true}
+use Rattle.std.proofs.lemmas.List.Sums.{count_by-le-length}
 use Rattle.std.specs.Prelude.{Option, None, Some, IsSome, slice_index}
 use Rattle.melt_model.specs.declared.reports.Phase.{Phase}
 use Rattle.melt_model.specs.declared.reports.Phase.TheVariants.{Inactive, Mark, Move}
@@ -14,7 +15,7 @@ use Rattle.melt_scion.specs.Heaps.{OnDisk, Shows, KeepsNames, KeepsScions, Keeps
 use Rattle.melt_scion.specs.declared.heap.Names as name_table
 use Rattle.melt_scion.specs.declared.heap.Heap.{Heap}
 use Rattle.melt_scion.specs.declared.registers.Registers.{Registers}
-use Rattle.melt_copy.specs.Settling.{with_image, StillTold}
+use Rattle.melt_copy.specs.Settling.{filled, RisesBy, with_image, StillTold}
 use Rattle.melt_move.specs.Collecting.{IsAsBefore, IsRefused, LacksDisk, SameNames}
 use Rattle.melt_move.specs.Planned.{IsRefusedSettled, Settles}
 use Rattle.melt_move.specs.Plans.{WantsHome}
@@ -24,6 +25,7 @@ use Rattle.melt_core.specs.Views.{maps_of, values_of, Bounded}
 use Rattle.melt_safepoint.specs.Collections.{FullOver, ShowsHeap}
 use Rattle.melt_safepoint.specs.Resting.{Beside, IsFullHeap, NamesHeap, rest_view}
 use Rattle.melt_safepoint.specs.Shown.{Shown, shown_by}
+use Rattle.melt_safepoint.specs.Writes.{SettledAtMost}
 use Rattle.melt_safepoint.proofs.Collecting.{InUseOf, RestsOver, StandsFor, rests_for, values_for}
 use Rattle.melt_safepoint.proofs.Gathering.{SeenDisk, renewed_by, seen_disk}
 use Rattle.melt_safepoint.proofs.PlannedRest.{SettledOver, keeps_made, keeps_then, settled_on}
@@ -204,4 +206,24 @@ is_full {phase} {image} {writes} {heap} {held} {registers} {before} {after} {bac
           (sym seen.ends) settled.settles) same (shown_by image after) settled.between.limit full
           (seen.ends ∙ sym (found.1.2 ∙ stays)) (ap image found.1.3) (λ tells. still (under.tells tells).0)
           (subst (λ (n : ℕ). LacksDisk settled.mid b.held n settled.between.limit full) (stays ∙ sym seen.ends) lacks);
+    }
+
+-- no more forwarding words are filled than there are
+filled_few : (words : List ℕ) → filled words ≤ length words
+filled_few words = count_by-le-length _ words
+
+-- What was settled before was written by one write each.
+pub full_wrote : {Disk : Type 0} {phase : Phase} {image : Disk → Option (List ℕ)} {writes : Disk → ℕ} {heap : Heap}
+    {held registers : List Registers} {before after : Stale Disk} {back : Heap} {full : disk_full.DiskFull}
+    → IsRefusedSettled image writes phase heap held registers before after (DiskFull back full)
+    → SettledAtMost (length back.forward) (writes before.disk.now) (writes after.disk.now)
+full_wrote {phase} {image} {writes} {heap} {held} {registers} {before} {after} {back} {full} settled =
+    let found = refused_move settled in
+    let same : IsAsBefore settled.mid back = found.1.0 in
+    let size : length back.forward ≡ length heap.forward = ap length same.forward ∙ settled.settles.all.forwards in
+    record {
+      settled = filled heap.forward;
+      few = omega (arith, size, filled_few heap.forward);
+      rises = subst (λ (n : ℕ). RisesBy (filled heap.forward) (writes before.disk.now) n)
+          (sym (ap writes found.1.3)) settled.rises;
     }

@@ -1,5 +1,5 @@
 -- What runs the epochs of a run, and what is asked of it.
-use Rattle.std.specs.Prelude.{◌≡◌, ℕ, ◌≤◌, Bool, List, Option, Result, Err, IfOk, IfErr, OnErr}
+use Rattle.std.specs.Prelude.{◌≡◌, ℕ, ◌≤◌, Bool, List, Option, Result, Err, IfOk, IfErr, OnOk, OnErr}
 use Rattle.std.specs.declared.alloc.Global.{Global}
 use denote.Ref.{MutBor}
 use denote.Param.Members.{Shared}
@@ -13,6 +13,7 @@ use Rattle.melt_safepoint.specs.Lends.{LendsAtMost}
 use Rattle.melt_safepoint.specs.Losses.{CountsLosses}
 use Rattle.melt_safepoint.specs.Rows.{RefusalStores, StopCounts, StopKeeps, StopStores, StopsBut, row_of}
 use Rattle.melt_safepoint.specs.Spaces.{Sees}
+use Rattle.melt_safepoint.specs.Writes.{RefusalWrote, WroteSince}
 use Rattle.melt_safepoint.specs.declared.collector.Collector.{Collector}
 use Rattle.melt_safepoint.specs.declared.collector.CollectRefusal.{CollectRefusal}
 use Rattle.melt_safepoint.specs.declared.collector.CollectRefusal.TheVariants.{DiskFault}
@@ -36,6 +37,8 @@ pub record CollectsSo {E S : Type 0} (view : E → View) (stored : List Entry �
     pub count : sees.faults space ≤ sees.faults later
     pub read_faults : sees.read_faults later ≡ sees.read_faults space
     pub lends : sees.lends later ≡ sees.lends space
+    pub wrote : OnOk result (WroteSince old.journal.items new.journal.items (sees.writes space) (sees.writes later))
+    pub refused_wrote : IfErr result (RefusalWrote (sees.writes space) (sees.writes later))
 
 -- An epoch: the threads go on, each as far as it can. Where one is to be the first, it makes its call before all
 -- others, and where that lacks words, no other goes on: these words are answered.
@@ -45,6 +48,7 @@ pub record RunsSo {E S : Type 0} (view : E → View) (stored : List Entry → Li
       (row_of view done.0) done.1)
   pub shown : sees.shown later ≡ sees.shown space
   pub same_disk : sees.name later ≡ sees.name space
+  pub writes : sees.writes later ≡ sees.writes space
   pub count : sees.faults space ≤ sees.faults later
   pub lost : IfOk result (λ (done : Run E × Option ℕ). CountsLosses run.states.items done.0.states.items
       (sees.read_faults space) (sees.read_faults later))

@@ -22,3 +22,4 @@ pub mod Shown
 pub mod Spaces
 pub mod Tables
 pub mod Threads
+pub mod Writes

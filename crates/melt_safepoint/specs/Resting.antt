@@ -1,6 +1,7 @@
 -- A heap between two epochs with what a machine has beside it, and what a collection makes of both.
-use Rattle.std.specs.Prelude.{◌≡◌, ℕ, ◌+◌, ◌≤◌, false, List, length, Option, Some, IsSome}
+use Rattle.std.specs.Prelude.{◌≡◌, ℕ, ◌+◌, ◌≤◌, false, List, [], ◌∷◌, ◌++◌, length, Option, Some, IsSome}
 use Rattle.melt_model.specs.declared.history.Entry.{Entry}
+use Rattle.melt_model.specs.declared.reports.Journal.{Journal}
 use Rattle.melt_model.specs.declared.reports.Phase.{Phase}
 use Rattle.melt_disk.specs.declared.space.DiskFull as disk
 use Rattle.melt_scion.specs.Heaps.{HasMaps, KeepsNames, NamesMade, IsSettled}
@@ -84,6 +85,12 @@ CollectsHeap phase shown later heap new held held_after old plans =
     (b : Beside) (names : Option name_table.Names) → b.held ≡ held → NamesHeap heap b.names → NamesHeap new names
     → MayCollect shown.end (rest_view heap b)
     → CollectsCore phase shown later (rest_view heap b) (rest_view new (with_names_held b names held_after)) old plans
+
+-- One collection more was written down, and its entry is of this one.
+pub record IsWrittenDown (js later : List Journal) (IsOf : Journal → Type 0) : Type 0 where
+  pub entry : Journal
+  pub journal : later ≡ js ++ entry ∷ []
+  pub is_of : IsOf entry
 
 -- The disk had no room for the new homes of a Move of a heap and registers. The heap is handed back, in which all
 -- stands as before, whatever stood beside it.

@@ -1,12 +1,14 @@
 //! The collections of a run, and why one is not made.
-ghost use Rattle.std.specs.Prelude.{◌≡◌, ◌<◌, ◌≤◌, All, [], length, IfOk, IfErr, IsErrOf, OnOk, OnErr};
+ghost use Rattle.std.specs.Prelude.{◌≡◌, ◌+◌, ◌<◌, ◌≤◌, All, [], length, IfOk, IfErr, IsErrOf, OnOk, OnErr};
 ghost use Rattle.melt_io.specs.Outside.{Rose};
 ghost use Rattle.melt_model.specs.declared.reports.Phase.{Phase};
+ghost use Rattle.melt_copy.specs.Settling.{RisesBy};
 ghost use Rattle.melt_move.specs.Collecting.{IsFormedOn};
 ghost use Rattle.melt_move.specs.KeptDisk.{KeepsDisk};
 ghost use Rattle.melt_move.specs.Planned.{CollectsPlanned, IsRefusedPlanned, phase_done, plan_after};
-ghost use Rattle.melt_safepoint.specs.Resting.{CollectsHeap, IsRefusedHeap, LeavesHeap, MayCollectHeap};
+ghost use Rattle.melt_safepoint.specs.Resting.{CollectsHeap, IsRefusedHeap, IsWrittenDown, LeavesHeap, MayCollectHeap};
 ghost use Rattle.melt_safepoint.specs.Shown.{shown_by};
+ghost use Rattle.melt_safepoint.specs.Writes.{HeapWrote, WroteSince};
 
 use crate::ending::Left;
 use melt_disk::{DiskFull, StaleSpace};
@@ -115,6 +117,8 @@ fn collect_uncounted<D: StaleDisk, L: Ledger>(
     ensures failed { IsErrOf result MoveRefusal.DiskFault
         → Rose (D.faults space.old.disk.now) (D.faults space.new.disk.now) }
     ensures keeps { KeepsDisk D.image D.faults D.read_faults D.lends space.old space.new }
+    ensures writes { IfOk result (λ done. RisesBy (done.1.bodies + done.1.stubs) (D.writes space.old.disk.now)
+        (D.writes space.new.disk.now)) }
     ensures before { All (λ each. length each.regs ≡ 16) registers.old }
     ensures after { OnOk result (All (λ each. length each.regs ≡ 16) registers.new) }
 {
@@ -139,6 +143,9 @@ pub fn collect_heap<D: StaleDisk>(
     ensures collected { IfOk result (λ after. CollectsHeap (phase_done force collector.old.plan.next)
         (shown_by D.image space.old) (shown_by D.image space.new) heap after registers.old registers.new
         collector.old collector.new) }
+    ensures planned { IfOk result (λ after. IsWrittenDown collector.old.journal.items collector.new.journal.items
+        (CollectsPlanned (phase_done force collector.old.plan.next) heap after registers.old registers.new
+        space.old.end space.new.end (D.image space.old.disk.now) (D.image space.new.disk.now))) }
     ensures leaves { IfOk result (LeavesHeap heap) }
     ensures refused { IfErr result (IsRefusedHeap (phase_done force collector.old.plan.next)
         (shown_by D.image space.old) (shown_by D.image space.new) heap registers.old) }
@@ -146,6 +153,9 @@ pub fn collect_heap<D: StaleDisk>(
     ensures failed { IsErrOf result HeapRefusal.DiskFault
         → Rose (D.faults space.old.disk.now) (D.faults space.new.disk.now) }
     ensures keeps { KeepsDisk D.image D.faults D.read_faults D.lends space.old space.new }
+    ensures wrote { OnOk result (WroteSince collector.old.journal.items collector.new.journal.items
+        (D.writes space.old.disk.now) (D.writes space.new.disk.now)) }
+    ensures refused_wrote { IfErr result (HeapWrote (D.writes space.old.disk.now) (D.writes space.new.disk.now)) }
 {
     let blank = Blank::new(1);
     let plan = &mut collector.plan;

@@ -3,7 +3,7 @@
 //! Between two epochs no call is in flight, so heap, registers and history are all that a run has: its machine. What a
 //! row of epochs does with it is written once; how the threads take turns inside an epoch is told by a function, as a
 //! run by the written order and one of running threads differ there.
-ghost use Rattle.std.specs.Prelude.{◌≡◌, ℕ, ◌<◌, ◌≤◌, true, List, length, IfOk, IfErr, OnErr, Err};
+ghost use Rattle.std.specs.Prelude.{◌≡◌, ℕ, ◌<◌, ◌≤◌, true, List, length, IfOk, IfErr, OnOk, OnErr, Err};
 ghost use Rattle.melt_io.specs.Outside.{Rose};
 ghost use Rattle.melt_model.specs.Alive.{CostsSum, Held, words_of};
 ghost use Rattle.melt_model.specs.declared.history.Entry.{Entry};
@@ -19,6 +19,7 @@ ghost use Rattle.melt_safepoint.specs.Epochs.{EndsEpoch, SomeMayRun};
 ghost use Rattle.melt_safepoint.specs.Lends.{LendsAtMost};
 ghost use Rattle.melt_safepoint.specs.Losses.{CountsLosses};
 ghost use Rattle.melt_safepoint.specs.Rows.{RefusalStores, StopCounts, StopKeeps, StopStores, StopsBut, row_of};
+ghost use Rattle.melt_safepoint.specs.Writes.{RefusalWrote, WroteSince};
 
 use crate::collector::{CollectRefusal, Collector};
 use crate::ending::{Left, Stop};
@@ -96,6 +97,9 @@ impl<C, F> Engine<C, F> {
         ensures count { S.sees.faults space.old ≤ S.sees.faults space.new }
         ensures read_faults { S.sees.read_faults space.new ≡ S.sees.read_faults space.old }
         ensures lends { S.sees.lends space.new ≡ S.sees.lends space.old }
+        ensures wrote { OnOk result (WroteSince collector.old.journal.items collector.new.journal.items
+            (S.sees.writes space.old) (S.sees.writes space.new)) }
+        ensures refused_wrote { IfErr result (RefusalWrote (S.sees.writes space.old) (S.sees.writes space.new)) }
     {
         (self.collect)(machine, alloc, collector, space, force)
     }
@@ -134,6 +138,7 @@ impl<C, F> Engine<C, F> {
             (S.sees.faults space.new) (S.sees.read_faults space.old) (S.sees.read_faults space.new)) }
         ensures stop_keeps { IfErr result (StopKeeps run.entry.collector.journal.items) }
         ensures stores { IfErr result (StopStores E.stored) }
+        ensures writes { S.sees.writes space.new ≡ S.sees.writes space.old }
     {
         (self.run_epoch)(run, alloc, space, first)
     }

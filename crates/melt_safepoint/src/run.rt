@@ -18,6 +18,7 @@ ghost use Rattle.melt_safepoint.specs.Rows.{StopTwice};
 ghost use Rattle.melt_safepoint.specs.Rows.{StopsRun, journal_of, row_of};
 ghost use Rattle.melt_safepoint.specs.Shown.{Shown};
 ghost use Rattle.melt_safepoint.specs.Threads.{AllEnded, NoneBelow, SomeGoesOn};
+ghost use Rattle.melt_safepoint.specs.Writes.{StopWrote, WroteSince};
 ghost use Rattle.melt_safepoint.specs.declared.thread.ThreadState.{ThreadState};
 
 use crate::collector::{CollectRefusal, Collector};
@@ -128,6 +129,7 @@ impl<'a, E: Machine> Run<'a, E> {
             (S.sees.read_faults space.new)) }
         ensures stores { IfErr result (StopStores E.stored) }
         ensures stop_keeps { IfErr result (StopKeeps (journal_of (row_of E.view self.entry))) }
+        ensures writes { S.sees.writes space.new ≡ S.sees.writes space.old }
     {
         if self.has_ended() {
             return Ok(self);
@@ -178,6 +180,10 @@ impl<'a, E: Machine> Run<'a, E> {
         ensures stop_lends { IfErr result (λ stop. (n : ℕ) → LendsEach C.Fn F.Fn E.view E.stored S.sees engine.now n
             → StopTwice n 1 (S.sees.lends space.old) (S.sees.lends space.new) (journal_of (row_of E.view self.entry))
             stop) }
+        ensures wrote { IfOk result (λ ended. WroteSince (journal_of (row_of E.view self.entry))
+            ended.journal.items (S.sees.writes space.old) (S.sees.writes space.new)) }
+        ensures stop_wrote { IfErr result (StopWrote (journal_of (row_of E.view self.entry)) (S.sees.writes space.old)
+            (S.sees.writes space.new)) }
     {
         let mut run = self.next_epoch(alloc, space, engine)?;
         while !run.has_ended() {

@@ -29,6 +29,7 @@ ghost use Rattle.melt_safepoint.specs.Rows.{journal_of, row_of};
 ghost use Rattle.melt_safepoint.specs.Shown.{Shown};
 ghost use Rattle.melt_safepoint.specs.Tables.{DropsIfEnded};
 ghost use Rattle.melt_safepoint.specs.Threads.{AllWait, NoneBelow, SomeGoesOn};
+ghost use Rattle.melt_safepoint.specs.Writes.{StopWrote, WroteSince};
 
 use crate::collector::{CollectRefusal, Collector};
 use crate::ending::{Stop, halt_run};
@@ -71,6 +72,10 @@ impl<'a, E: Machine> Run<'a, E> {
         ensures stores { IfErr result (StopStores E.stored) }
         ensures lends { S.sees.lends space.new ≡ S.sees.lends space.old }
         ensures stop_keeps { IfErr result (StopKeeps (journal_of (row_of E.view self.entry))) }
+        ensures wrote { IfOk result (λ run. WroteSince (journal_of (row_of E.view self.entry))
+            (journal_of (row_of E.view run)) (S.sees.writes space.old) (S.sees.writes space.new)) }
+        ensures stop_wrote { IfErr result (StopWrote (journal_of (row_of E.view self.entry)) (S.sees.writes space.old)
+            (S.sees.writes space.new)) }
     {
         match engine.collect(self.machine, alloc, &mut self.collector, space, force) {
             Ok(machine) => {
@@ -142,6 +147,10 @@ impl<'a, E: Machine> Run<'a, E> {
         ensures stores { IfErr result (StopStores E.stored) }
         ensures lends { S.sees.lends space.new ≡ S.sees.lends space.old }
         ensures stop_keeps { IfErr result (StopKeeps (journal_of (row_of E.view self.entry))) }
+        ensures wrote { IfOk result (λ run. WroteSince (journal_of (row_of E.view self.entry))
+            (journal_of (row_of E.view run)) (S.sees.writes space.old) (S.sees.writes space.new)) }
+        ensures stop_wrote { IfErr result (StopWrote (journal_of (row_of E.view self.entry)) (S.sees.writes space.old)
+            (S.sees.writes space.new)) }
     {
         match self.states[thread as usize].mode {
             Mode::Collecting | Mode::Silent => {}
@@ -192,6 +201,10 @@ impl<'a, E: Machine> Run<'a, E> {
         ensures stop_lends { IfErr result (λ stop. (n : ℕ) → LendsEach C.Fn F.Fn E.view E.stored S.sees engine.now n
             → StopTwice n 0 (S.sees.lends space.old)
             (S.sees.lends space.new) (journal_of (row_of E.view self.entry)) stop) }
+        ensures wrote { IfOk result (λ run. WroteSince (journal_of (row_of E.view self.entry))
+            (journal_of (row_of E.view run)) (S.sees.writes space.old) (S.sees.writes space.new)) }
+        ensures stop_wrote { IfErr result (StopWrote (journal_of (row_of E.view self.entry)) (S.sees.writes space.old)
+            (S.sees.writes space.new)) }
     {
         let mut run = self;
         for t in 0..run.states.len() as u32 {
@@ -286,6 +299,10 @@ impl<'a, E: Machine> Run<'a, E> {
         ensures stop_lends { IfErr result (λ stop. (n : ℕ) → LendsEach C.Fn F.Fn E.view E.stored S.sees engine.now n
             → StopLends n 1 (S.sees.lends space.old)
             (S.sees.lends space.new) (journal_of (row_of E.view self.entry)) stop) }
+        ensures wrote { IfOk result (λ run. WroteSince (journal_of (row_of E.view self.entry))
+            (journal_of (row_of E.view run)) (S.sees.writes space.old) (S.sees.writes space.new)) }
+        ensures stop_wrote { IfErr result (StopWrote (journal_of (row_of E.view self.entry)) (S.sees.writes space.old)
+            (S.sees.writes space.new)) }
     {
         let (mut run, mut need, mut forced) = (self, need, 0);
         while run.may_move(need, forced) {
@@ -348,6 +365,10 @@ impl<'a, E: Machine> Run<'a, E> {
         ensures stop_lends { IfErr result (λ stop. (n : ℕ) → LendsEach C.Fn F.Fn E.view E.stored S.sees engine.now n
             → StopLends n 2 (S.sees.lends space.old)
             (S.sees.lends space.new) (journal_of (row_of E.view self.entry)) stop) }
+        ensures wrote { IfOk result (λ run. WroteSince (journal_of (row_of E.view self.entry))
+            (journal_of (row_of E.view run)) (S.sees.writes space.old) (S.sees.writes space.new)) }
+        ensures stop_wrote { IfErr result (StopWrote (journal_of (row_of E.view self.entry)) (S.sees.writes space.old)
+            (S.sees.writes space.new)) }
     {
         let (run, lacks) = engine.run_epoch(self, alloc, space, Some(thread))?;
         match lacks {
@@ -399,6 +420,10 @@ impl<'a, E: Machine> Run<'a, E> {
         ensures stop_lends { IfErr result (λ stop. (n : ℕ) → LendsEach C.Fn F.Fn E.view E.stored S.sees engine.now n
             → StopTwice n 0 (S.sees.lends space.old)
             (S.sees.lends space.new) (journal_of (row_of E.view self.entry)) stop) }
+        ensures wrote { IfOk result (λ run. WroteSince (journal_of (row_of E.view self.entry))
+            (journal_of (row_of E.view run)) (S.sees.writes space.old) (S.sees.writes space.new)) }
+        ensures stop_wrote { IfErr result (StopWrote (journal_of (row_of E.view self.entry)) (S.sees.writes space.old)
+            (S.sees.writes space.new)) }
     {
         let made = self.collector.journal.len();
         let run = self.collect_for_all(alloc, space, engine)?;

@@ -13,7 +13,7 @@ pub trait DiskSpace {
 }
 
 impl<'d, D: StaleDisk> DiskSpace for StaleSpace<'d, D> {
-    ghost sees = { sees_stale D.image D.faults D.read_faults D.lends };
+    ghost sees = { sees_stale D.image D.faults D.read_faults D.lends D.writes };
 }
 
 /// Whether the disk tells its words. The value takes no bytes.

@@ -10,6 +10,7 @@ ghost use Rattle.melt_safepoint.specs.Engines.{LendsEach};
 ghost use Rattle.melt_safepoint.specs.Rows.{RunStands, row_of};
 ghost use Rattle.melt_safepoint.specs.Run.{CountsFaults, CountsLends, HasNoOperations, HasRun};
 ghost use Rattle.melt_safepoint.specs.Threads.{AllEnded};
+ghost use Rattle.melt_safepoint.specs.Writes.{CountsWrites};
 
 use crate::collector::{CollectRefusal, Collector};
 use crate::ending::Stop;
@@ -41,6 +42,9 @@ where
     ensures lends { IfOk result (λ done. (n : ℕ) → LendsEach C.Fn F.Fn E.view E.stored S.sees engine.now n
         → (script : Script) → (HasNoOperations script → AllEnded run.entry.states.items)
         → CountsLends n script done.0 (S.sees.lends space.old) (S.sees.lends space.new)) }
+    ensures wrote { IfOk result (λ done. (told : Bool) (script : Script) (config : Config)
+        → RunStands told script config (S.sees.shown space.old) (row_of E.view run.entry)
+        → CountsWrites config done.0.halt done.0.journal (S.sees.writes space.old) (S.sees.writes space.new)) }
     ensures log { IfOk result (λ done. done.0.log ≡ E.stored done.0.history) }
 {
     let ended = match run.run_all(alloc, space, engine) {

@@ -2,7 +2,7 @@
 //!
 //! A collection is made between two epochs. It takes the heap and lends the registers, and so the core is taken apart
 //! for it and put together again. Where it is refused these parts are left, and the report of the run is made of them.
-ghost use Rattle.std.specs.Prelude.{◌≡◌, [], IfOk, IfErr, OnErr, Err, if◌then◌else◌};
+ghost use Rattle.std.specs.Prelude.{◌≡◌, [], IfOk, IfErr, OnOk, OnErr, Err, if◌then◌else◌};
 ghost use Rattle.melt_core.specs.Views.{history_in, stores, view};
 ghost use Rattle.melt_io.specs.Outside.{Rose};
 ghost use Rattle.melt_move.specs.KeptDisk.{KeepsDisk};
@@ -11,6 +11,7 @@ ghost use Rattle.melt_safepoint.specs.Shown.{shown_by};
 ghost use Rattle.melt_safepoint.specs.declared.ending.Left.{Left};
 ghost use Rattle.melt_safepoint.specs.Collections.{CollectsCore, IsRefusedCore, MayCollect};
 ghost use Rattle.melt_safepoint.specs.Rows.{RefusalStores};
+ghost use Rattle.melt_safepoint.specs.Writes.{RefusalWrote, WroteSince};
 
 use melt_core::{Core, Rest};
 use melt_disk::StaleSpace;
@@ -57,6 +58,9 @@ pub fn collect_core<D: StaleDisk>(
     ensures stored { IfOk result (λ after. stores (view after) ≡ stored) }
     ensures stores { IfErr result (RefusalStores (λ history. if stored then history else [])) }
     ensures keeps { KeepsDisk D.image D.faults D.read_faults D.lends space.old space.new }
+    ensures wrote { OnOk result (WroteSince collector.old.journal.items collector.new.journal.items
+        (D.writes space.old.disk.now) (D.writes space.new.disk.now)) }
+    ensures refused_wrote { IfErr result (RefusalWrote (D.writes space.old.disk.now) (D.writes space.new.disk.now)) }
 {
     let (heap, mut rest) = core.finish();
     let registers = rest.registers();

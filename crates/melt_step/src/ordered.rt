@@ -27,7 +27,7 @@ pub(crate) fn collect_ordered<'a, D: StaleDisk, const STORED: usize>(
 ) -> Result<Ordered<'a, STORED>, CollectRefusal>
     requires may { MayCollect (shown_by D.image space.old).end (kept_view machine) }
     ensures collects { CollectsSo kept_view (λ history. if STORED == 1 then history else [])
-        (sees_stale D.image D.faults D.read_faults D.lends) machine.entry collector.old collector.new space.old space.new
+        (sees_stale D.image D.faults D.read_faults D.lends D.writes) machine.entry collector.old collector.new space.old space.new
         force result }
 {
     let Ordered { core, turns, trace } = machine;
@@ -46,7 +46,7 @@ pub(crate) fn run_ordered<'a, D: StaleDisk, const STORED: usize>(
 ) -> Result<(Run<'a, Ordered<'a, STORED>>, Option<u32>), Stop<'a>>
     requires may { SomeMayRun (shown_by D.image space.old) first (row_of kept_view run) }
     ensures runs { RunsSo kept_view (λ history. if STORED == 1 then history else [])
-        (sees_stale D.image D.faults D.read_faults D.lends) run.entry space.old space.new first result }
+        (sees_stale D.image D.faults D.read_faults D.lends D.writes) run.entry space.old space.new first result }
     ensures lends { LendsAtMost 1 (D.lends space.old.disk.now) (D.lends space.new.disk.now) }
 {
     let mut reader = match space.lend(alloc) {

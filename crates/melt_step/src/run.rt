@@ -14,6 +14,7 @@ ghost use Rattle.melt_safepoint.specs.Shown.{Shown, shown_by};
 ghost use Rattle.melt_safepoint.specs.Spaces.{sees_stale};
 ghost use Rattle.melt_safepoint.specs.Tables.{KnowsStop};
 ghost use Rattle.melt_safepoint.specs.Threads.{AllEnded};
+ghost use Rattle.melt_safepoint.specs.Writes.{CountsWrites};
 ghost use Rattle.melt_step.specs.Going.{core_view, kept_view};
 
 use crate::machine::Ordered;
@@ -89,6 +90,8 @@ fn run_ordered_trace<D: StaleDisk, const STORED: usize>(
         (D.faults space.new.disk.now) (D.read_faults space.old.disk.now) (D.read_faults space.new.disk.now)) }
     ensures lends { IfOk result (λ done. CountsLends 1 trace.now done.0 (D.lends space.old.disk.now)
         (D.lends space.new.disk.now)) }
+    ensures wrote { IfOk result (λ done. CountsWrites config done.0.halt done.0.journal (D.writes space.old.disk.now)
+        (D.writes space.new.disk.now)) }
     ensures log { IfOk result (λ done. done.0.log ≡ (if STORED == 1 then done.0.history else [])) }
 {
     let run = new_run::<STORED>(alloc, trace, config, tells(space))?;
@@ -99,13 +102,13 @@ fn run_ordered_trace<D: StaleDisk, const STORED: usize>(
         >, force: bool|
             requires may { MayCollect (shown_by D.image space.old).end (kept_view machine) }
             ensures collects { CollectsSo kept_view (λ history. if STORED == 1 then history else [])
-                (sees_stale D.image D.faults D.read_faults D.lends) machine.entry collector.old collector.new space.old
+                (sees_stale D.image D.faults D.read_faults D.lends D.writes) machine.entry collector.old collector.new space.old
                 space.new force result }
         { collect_ordered(machine, alloc, collector, space, force) },
         run_epoch: |run: _, alloc: Global, space: &mut StaleSpace<'_, D>, first: Option<u32>|
             requires may { SomeMayRun (shown_by D.image space.old) first (row_of kept_view run) }
             ensures runs { RunsSo kept_view (λ history. if STORED == 1 then history else [])
-                (sees_stale D.image D.faults D.read_faults D.lends) run.entry space.old space.new first result }
+                (sees_stale D.image D.faults D.read_faults D.lends D.writes) run.entry space.old space.new first result }
             ensures lends { LendsAtMost 1 (D.lends space.old.disk.now) (D.lends space.new.disk.now) }
         { run_ordered(run, alloc, space, first) },
     };
@@ -136,6 +139,8 @@ pub fn run_schedule<D: StaleDisk>(
         (D.faults space.new.disk.now) (D.read_faults space.old.disk.now) (D.read_faults space.new.disk.now)) }
     ensures lends { IfOk result (λ done. CountsLends 1 trace.now done.0 (D.lends space.old.disk.now)
         (D.lends space.new.disk.now)) }
+    ensures wrote { IfOk result (λ done. CountsWrites config done.0.halt done.0.journal (D.writes space.old.disk.now)
+        (D.writes space.new.disk.now)) }
     ensures log { IfOk result (λ done. done.0.log ≡ (if stored then done.0.history else [])) }
 {
     if stored {

@@ -24,8 +24,9 @@ use Rattle.melt_top.specs.declared.text.Texts.{Texts}
 use Rattle.melt_top.specs.declared.top.Way.{Way}
 use Rattle.melt_top.specs.declared.top.Way.TheVariants as way
 use Rattle.melt_top.specs.declared.status.Status.TheVariants as status
-use Rattle.melt_safepoint.specs.Run.{HasRun, CountsFaults}
+use Rattle.melt_safepoint.specs.Run.{HasRun, CountsFaults, CountsLends}
 use Rattle.melt_safepoint.specs.Shown.{Shown}
+use Rattle.melt_safepoint.specs.Writes.{CountsWrites}
 
 -- What a source or a sink had before a call and after it: its bytes, where it tells them, and its faults.
 pub record Change : Type 0 where
@@ -45,7 +46,7 @@ change bytes faults old new = record {
 }
 
 -- What the disk had before a call and after it: its words, where it tells them, the failures of its writes and lends,
--- and those of the reads of readers that were given back.
+-- and those of the reads of readers that were given back; how many readers it lent, and how many records were written.
 pub record DiskChange : Type 0 where
   pub before : Option (List ℕ)
   pub after : Option (List ℕ)
@@ -53,17 +54,25 @@ pub record DiskChange : Type 0 where
   pub faults_after : ℕ
   pub read_faults_before : ℕ
   pub read_faults_after : ℕ
+  pub lends_before : ℕ
+  pub lends_after : ℕ
+  pub writes_before : ℕ
+  pub writes_after : ℕ
 
 -- what happened to a disk, of which these say its words and its counts
-abbrev pub disk_change : {Disk : Type 0} → (Disk → Option (List ℕ)) → (faults read_faults : Disk → ℕ)
+abbrev pub disk_change : {Disk : Type 0} → (Disk → Option (List ℕ)) → (faults read_faults lends writes : Disk → ℕ)
     → (old new : Disk) → DiskChange
-disk_change image faults read_faults old new = record {
+disk_change image faults read_faults lends writes old new = record {
   before = image old;
   after = image new;
   faults_before = faults old;
   faults_after = faults new;
   read_faults_before = read_faults old;
   read_faults_after = read_faults new;
+  lends_before = lends old;
+  lends_after = lends new;
+  writes_before = writes old;
+  writes_after = writes new;
 }
 
 -- The disk tells its words, and none of its calls failed.
@@ -85,6 +94,8 @@ pub record IsUnused (disk : DiskChange) : Type 0 where
   pub words : disk.after ≡ disk.before
   pub faults : disk.faults_after ≡ disk.faults_before
   pub read_faults : disk.read_faults_after ≡ disk.read_faults_before
+  pub lends : disk.lends_after ≡ disk.lends_before
+  pub writes : disk.writes_after ≡ disk.writes_before
 
 -- nothing was read
 pub record IsUntouched (input : Change) : Type 0 where
@@ -117,11 +128,17 @@ abbrev pub stored_by : Way → Texts → List Entry → List Entry
 stored_by way.Written texts h = if texts.log then h else []
 stored_by way.Running texts h = []
 
+-- how many readers an epoch lends at most: one by the written order, and else one for each of eight threads
+abbrev pub readers_of : Way → ℕ
+readers_of way.Written = 1
+readers_of way.Running = 8
+
 -- The output is the text of a report of a run of the script. Where the disk tells its words, the replies are those of
 -- one legal history, which is a value of the report: where the run is by the written order and that is asked, its log
 -- has each entry of it, and is written; and what the run left of its heap stands for this history, over the words that
 -- the disk has then. The disk's counts tell of each thread that could not read it, and of a run that it halted by a
--- fault; so where none of them rose, no thread ended by the disk, but for one that was full.
+-- fault; so where none of them rose, no thread ended by the disk, but for one that was full. And they tell of how many
+-- records the collections wrote, and how many readers epochs were lent.
 pub record RunDue (way : Way) (script : Script) (run : RunOptions) (disk : DiskChange) (due : Status) (output : List ℕ)
     : Type 0 where
   pub report : Report
@@ -132,6 +149,8 @@ pub record RunDue (way : Way) (script : Script) (run : RunOptions) (disk : DiskC
   pub logged : report.log ≡ stored_by way run.texts report.history
   pub shows : shown.image ≡ disk.after
   pub counts : CountsFaults report disk.faults_before disk.faults_after disk.read_faults_before disk.read_faults_after
+  pub lends : CountsLends (readers_of way) script report disk.lends_before disk.lends_after
+  pub writes : CountsWrites run.config report.halt report.journal disk.writes_before disk.writes_after
   pub complete : ServedWell disk
       → (t : ℕ) (r : ThreadReport) → slice_get report.threads t ≡ Some r → IsServedEnd report.halt r.end
   pub status : due ≡ status_of report

@@ -1,8 +1,9 @@
 //! The whole program, over any source and any sink.
 ghost use Rattle.std.specs.Prelude.{◌≡◌, ◌⊎◌, Bool, true, map, string_bytes, IfErr, IfOk, IsSome, Ok, OnErr};
 ghost use Rattle.melt_io.specs.Outside.{Rose};
-ghost use Rattle.melt_safepoint.specs.Run.{CountsFaults, HasRun};
+ghost use Rattle.melt_safepoint.specs.Run.{CountsFaults, CountsLends, HasRun};
 ghost use Rattle.melt_safepoint.specs.Shown.{shown_by};
+ghost use Rattle.melt_safepoint.specs.Writes.{CountsWrites};
 ghost use Rattle.melt_model.specs.Config.{InRanges};
 ghost use Rattle.melt_trace.specs.Grammar.{line};
 ghost use Rattle.melt_trace.specs.Refusal.{IsRefusedTrace};
@@ -11,7 +12,7 @@ ghost use Rattle.melt_top.specs.Command.{HasRanges, meant};
 ghost use Rattle.melt_top.specs.Text.{refused_text};
 ghost use Rattle.melt_top.specs.Headline.{Due, InputDue, IsUsage, MadeNone, MadeTrace, ReadAFront, RunDue, TraceDue};
 ghost use Rattle.melt_top.specs.Headline.{CanBeDone, IsBuilt, IsComplete, NothingFailed, Outcome, ReadAtMost};
-ghost use Rattle.melt_top.specs.Headline.{change, disk_change, stored_by};
+ghost use Rattle.melt_top.specs.Headline.{change, disk_change, readers_of, stored_by};
 
 use crate::command::{Command, Recipe, RunOptions, command_of};
 use crate::status::{Status, status_for};
@@ -80,6 +81,10 @@ fn run_by<X: Threads + Sync, D: StaleDisk, G: Gate + Sync>(
     ensures same_disk { space.new.disk.ghost_name ≡ space.old.disk.ghost_name }
     ensures counts { IfOk result (λ done. CountsFaults done.0 (D.faults space.old.disk.now)
         (D.faults space.new.disk.now) (D.read_faults space.old.disk.now) (D.read_faults space.new.disk.now)) }
+    ensures lends { IfOk result (λ done. CountsLends (readers_of way) trace.now done.0 (D.lends space.old.disk.now)
+        (D.lends space.new.disk.now)) }
+    ensures writes { IfOk result (λ done. CountsWrites run.config done.0.halt done.0.journal
+        (D.writes space.old.disk.now) (D.writes space.new.disk.now)) }
     ensures stored { IfOk result (λ done. done.0.log ≡ stored_by way run.texts done.0.history) }
 {
     match way {
@@ -100,7 +105,7 @@ fn run_answer<X: Threads + Sync, D: StaleDisk, G: Gate + Sync>(
 ) -> Result<Answer, NoMemory>
     requires { InRanges run.config }
     ensures { IfOk result (λ answer. RunDue way trace.now run
-        (disk_change D.image D.faults D.read_faults disk.old disk.new)
+        (disk_change D.image D.faults D.read_faults D.lends D.writes disk.old disk.new)
         answer.status answer.text.items) }
 {
     let mut space = StaleSpace::new(disk, run.config.disk);
@@ -134,7 +139,7 @@ fn trace_answer<X: Threads + Sync, D: StaleDisk, G: Gate + Sync>(
 ) -> Result<Answer, NoMemory>
     requires { InRanges run.config }
     ensures { IfOk result (λ answer. TraceDue way run bytes.items
-        (disk_change D.image D.faults D.read_faults disk.old disk.new)
+        (disk_change D.image D.faults D.read_faults D.lends D.writes disk.old disk.new)
         answer.status answer.text.items) }
 {
     match parse_text(alloc, bytes) {
@@ -157,7 +162,7 @@ fn input_answer<X: Threads + Sync, S: Source, D: StaleDisk, G: Gate + Sync>(
     requires { InRanges run.config }
     ensures due { IfOk result (λ answer. InputDue way run
         (change S.left S.faults input.old input.new)
-        (disk_change D.image D.faults D.read_faults disk.old disk.new)
+        (disk_change D.image D.faults D.read_faults D.lends D.writes disk.old disk.new)
         answer.status answer.text.items) }
     ensures read { ReadAFront
         (change S.left S.faults input.old input.new) }
@@ -197,7 +202,7 @@ fn answer_to<X: Threads + Sync, S: Source, D: StaleDisk, G: Gate + Sync>(
 ) -> Result<Answer, NoMemory>
     ensures due { IfOk result (λ answer. Due (meant (map string_bytes words.now))
         (change S.left S.faults input.old input.new)
-        (disk_change D.image D.faults D.read_faults disk.old disk.new)
+        (disk_change D.image D.faults D.read_faults D.lends D.writes disk.old disk.new)
         answer.status answer.text.items) }
     ensures read { OnErr result (ReadAtMost (meant (map string_bytes words.now))
         (change S.left S.faults input.old input.new)) }
@@ -227,7 +232,7 @@ pub fn melt<X: Threads + Sync, S: Source, K: Sink, D: StaleDisk, G: Gate + Sync>
 ) -> Status
     ensures headline { Outcome (meant (map string_bytes words.now))
         (change S.left S.faults input.old input.new)
-        (disk_change D.image D.faults D.read_faults disk.old disk.new)
+        (disk_change D.image D.faults D.read_faults D.lends D.writes disk.old disk.new)
         (change K.written K.faults out.old out.new)
         result }
     // Each answer by itself. Want of memory alone has no cause.
@@ -243,7 +248,7 @@ pub fn melt<X: Threads + Sync, S: Source, K: Sink, D: StaleDisk, G: Gate + Sync>
     // And where nothing failed, what can be done is done.
     ensures complete { CanBeDone (meant (map string_bytes words.now)) (change S.left S.faults input.old input.new)
         → NothingFailed (change S.left S.faults input.old input.new)
-        (disk_change D.image D.faults D.read_faults disk.old disk.new)
+        (disk_change D.image D.faults D.read_faults D.lends D.writes disk.old disk.new)
         (change K.written K.faults out.old out.new)
         → (result ≡ Status.NoMemory) ⊎ IsComplete (meant (map string_bytes words.now)) result }
 {

@@ -45,6 +45,7 @@ loop-k-preserved g c =
       count = (let before = i.count in let more = c.in_ok-reader.ensures.count in omega (arith, before, more));
       read_faults = c.in_ok-reader.ensures.read_faults ∙ i.read_faults;
       lends = lends_one k _ _ _ i.lends c.in_ok-reader.ensures.lends;
+      writes = c.in_ok-reader.ensures.writes ∙ i.writes;
       end = c.in_ok-reader.ensures.end ∙ i.end;
       limit = c.in_ok-reader.ensures.limit ∙ i.limit;
       same_disk = c.in_ok-reader.ensures.same_disk ∙ i.same_disk;

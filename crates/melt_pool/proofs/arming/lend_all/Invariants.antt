@@ -11,6 +11,7 @@ invariant-loop-k g l = record {
   count : g.D.StaleDisk.faults l.fn.space.disk.now ≤ g.D.StaleDisk.faults l.space.disk.now;
   read_faults : g.D.StaleDisk.read_faults l.space.disk.now ≡ g.D.StaleDisk.read_faults l.fn.space.disk.now;
   lends : LendsAtMost l.k (g.D.StaleDisk.lends l.fn.space.disk.now) (g.D.StaleDisk.lends l.space.disk.now);
+  writes : g.D.StaleDisk.writes l.space.disk.now ≡ g.D.StaleDisk.writes l.fn.space.disk.now;
   end : l.space.end ≡ l.fn.space.end;
   limit : l.space.limit ≡ l.fn.space.limit;
   same_disk : l.space.disk.ghost_name ≡ l.fn.space.disk.ghost_name;

@@ -57,6 +57,7 @@ loop-k-preserved g c =
       image = c.give_back.ensures.image ∙ i.image;
       count = c.give_back.ensures.count ∙ i.count;
       lends = c.give_back.ensures.lends ∙ i.lends;
+      writes = c.give_back.ensures.writes ∙ i.writes;
       end = c.give_back.ensures.end ∙ i.end;
       limit = c.give_back.ensures.limit ∙ i.limit;
       same_disk = c.give_back.ensures.same_disk ∙ i.same_disk;

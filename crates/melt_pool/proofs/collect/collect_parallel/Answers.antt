@@ -7,6 +7,7 @@ use Rattle.melt_move.specs.Planned.{phase_done}
 use Rattle.melt_scion.specs.declared.registers.Registers.{Registers}
 use Rattle.melt_safepoint.specs.Collections.{CollectsCore}
 use Rattle.melt_safepoint.specs.Shown.{Shown, shown_by}
+use Rattle.melt_safepoint.proofs.Writes.{settled_heap}
 use Rattle.melt_pool.specs.Machines.{parallel_view}
 use Rattle.melt_pool.specs.Parts.{IsNameless, beside_of, parts_view}
 use Rattle.melt_pool.proofs.Away.{away_collected, nameless_left, parts_collected, parts_full}
@@ -67,6 +68,8 @@ returns-in-Ok g c = let at = (goal.at.returns-in-Ok g c).In-Ok in record {
     count = c.collect_heap.ensures.keeps.count;
     read_faults = c.collect_heap.ensures.keeps.read_faults;
     lends = c.collect_heap.ensures.keeps.lends;
+    wrote = c.in-Ok.ensures.wrote;
+    refused_wrote = tt;
   };
 }
 
@@ -89,5 +92,7 @@ returns-in-Err-DiskFull g c =
         count = c.collect_heap.ensures.keeps.count;
         read_faults = c.collect_heap.ensures.keeps.read_faults;
         lends = c.collect_heap.ensures.keeps.lends;
+        wrote = tt;
+        refused_wrote = settled_heap c.left_of.result _ _ there (rw c.in-Err-DiskFull.field-0-is at c.in-Err-DiskFull.ensures.refused_wrote);
       };
     }

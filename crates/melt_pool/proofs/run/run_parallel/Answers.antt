@@ -40,6 +40,7 @@ returns-then-is_empty g c =
             none c.requires.may;
         shown = refl;
         same_disk = refl;
+        writes = refl;
         count = omega arith;
         lost = counts_same c.args.run.states.items c.args.run.states.items _ _ refl (omega arith);
         stopped = tt;
@@ -88,6 +89,7 @@ returns-in-Err-Failed-clause-so g c =
       ends = tt;
       shown = lent_shown g at;
       same_disk = c.lend_all.ensures.same_disk;
+      writes = c.lend_all.ensures.writes;
       count = c.lend_all.ensures.count;
       lost = tt;
       stopped = λ told script config before.
@@ -194,6 +196,7 @@ returns-clause-so g c =
           c.as_mut_slice-held.ensures.value ends));
       shown = c.go_through.ensures.shown ∙ lent_shown g p.After-lend_all;
       same_disk = c.go_through.ensures.same_disk ∙ c.lend_all.ensures.same_disk;
+      writes = c.go_through.ensures.writes ∙ c.lend_all.ensures.writes;
       count = omega (arith, c.go_through.ensures.count, c.lend_all.ensures.count);
       lost = subst (λ (n : ℕ). CountsLosses states after n (g.D.StaleDisk.read_faults c.go_through.new.space.disk.now))
           c.lend_all.ensures.read_faults

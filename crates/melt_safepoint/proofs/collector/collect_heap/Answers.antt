@@ -2,7 +2,8 @@
 use Rattle.std.proofs.Common.{sym, ◌∙◌}
 use Rattle.melt_safepoint.specs.Shown.{shown_by}
 use Rattle.melt_safepoint.proofs.Gathering.{collects_heap, leaves_planned, may_formed, when_pushed}
-use Rattle.melt_safepoint.proofs.Refused.{is_full}
+use Rattle.melt_safepoint.proofs.Refused.{full_wrote, is_full}
+use Rattle.melt_safepoint.proofs.Writes.{wrote_one}
 use Rattle.melt_safepoint.proofs.collector.collect_heap.Goals as goal
 
 pub collect_uncounted-requires-clause-formed : goal.collect_uncounted-requires-clause-formed
@@ -21,6 +22,20 @@ returns-in-Ok-clause-collected g c =
     (when_pushed c.push.result c.push.new.self.items c.args.collector.now.journal.items _
     (sym c.is_err.ensures.value ∙ c.if-is_err.false) c.push.ensures.items) c.in-Ok.ensures.plans
 
+pub returns-in-Ok-clause-planned : goal.returns-in-Ok-clause-planned
+returns-in-Ok-clause-planned g c = record {
+  entry = c.in-Ok.journal;
+  journal = when_pushed c.push.result c.push.new.self.items c.args.collector.now.journal.items _
+      (sym c.is_err.ensures.value ∙ c.if-is_err.false) c.push.ensures.items;
+  is_of = c.in-Ok.ensures.collects;
+}
+
+pub returns-in-Ok-clause-wrote : goal.returns-in-Ok-clause-wrote
+returns-in-Ok-clause-wrote g c =
+    wrote_one _ c.push.new.self.items c.in-Ok.journal _ _
+    (when_pushed c.push.result c.push.new.self.items c.args.collector.now.journal.items _
+    (sym c.is_err.ensures.value ∙ c.if-is_err.false) c.push.ensures.items) c.in-Ok.ensures.writes
+
 pub returns-in-Ok-clause-leaves : goal.returns-in-Ok-clause-leaves
 returns-in-Ok-clause-leaves g c =
     leaves_planned (shown_by g.D.StaleDisk.image c.args.space.now)
@@ -30,3 +45,8 @@ pub returns-in-Err-DiskFull-clause-refused : goal.returns-in-Err-DiskFull-clause
 returns-in-Err-DiskFull-clause-refused g c =
     let refused = rw c.in-Err-DiskFull.field-0-is at c.in-Err-DiskFull.ensures.refused in
     is_full refused c.in-Err-DiskFull.ensures.keeps.limit c.in-Err-DiskFull.ensures.keeps.tells
+
+pub returns-in-Err-DiskFull-clause-refused_wrote : goal.returns-in-Err-DiskFull-clause-refused_wrote
+returns-in-Err-DiskFull-clause-refused_wrote g c =
+    let refused = rw c.in-Err-DiskFull.field-0-is at c.in-Err-DiskFull.ensures.refused in
+    full_wrote refused

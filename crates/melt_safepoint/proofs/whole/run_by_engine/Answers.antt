@@ -5,12 +5,14 @@ use Rattle.melt_model.specs.declared.reports.Halt.TheVariants as halt
 use Rattle.melt_safepoint.specs.Lends.{LendsTwice}
 use Rattle.melt_safepoint.specs.Engines.{LendsEach}
 use Rattle.melt_safepoint.proofs.Lends.{counts_lends}
+use Rattle.melt_safepoint.specs.Writes.{StopWrote}
 use Rattle.melt_safepoint.specs.Rows.{StopCounts, StopStores, StopTwice, StopsRun, journal_of, row_of}
 use Rattle.melt_safepoint.proofs.Untold.{ended_untold}
 use Rattle.melt_safepoint.specs.declared.ending.Ended.{Ended}
 use Rattle.melt_safepoint.specs.declared.ending.Stop.{Stop}
 use Rattle.melt_safepoint.specs.declared.ending.Stop.TheVariants.{Halted}
 use Rattle.melt_safepoint.proofs.Remaining.{counts_faults, both_ok}
+use Rattle.melt_safepoint.proofs.Writes.{counts_writes, wrote_all}
 use Rattle.melt_safepoint.proofs.whole.run_by_engine.Given.{Over}
 use Rattle.melt_safepoint.proofs.whole.run_by_engine.Goals as goal
 use Rattle.melt_safepoint.proofs.whole.run_by_engine.Goals.{in-Ok, in-Err-Halted, Joined-run_all}
@@ -73,6 +75,29 @@ returns-clause-counts g c =
     (λ done lost halts. counts_faults c.args.run.states.items c.match-run_all.ended done.0 _ _ _
     c.requires.begins.none_lost c.run_all.ensures.count (counted g at) lost halts)
     c.report.ensures.lost c.report.ensures.halt
+
+-- what was written
+wrote : (g : Over) (c : Joined-run_all g) → StopWrote (journal_of (row_of g.E.Machine.view c.args.run))
+    (g.S.DiskSpace.sees.writes c.args.space.now) (g.S.DiskSpace.sees.writes c.run_all.new.space)
+    (Halted c.match-run_all.ended)
+wrote g c =
+    let js = journal_of (row_of g.E.Machine.view c.args.run) in
+    let Wrote : Stop → Type 0 = StopWrote js (g.S.DiskSpace.sees.writes c.args.space.now)
+    (g.S.DiskSpace.sees.writes c.run_all.new.space) in
+    elim c.match-run_all.branch [
+      | in-Ok w ↦ subst (λ (e : Ended). Wrote (Halted e)) (sym w.ended-is)
+          (wrote_all js _ _ w.in-Ok.ended w.in-Ok.ensures.done w.in-Ok.ensures.wrote)
+      | in-Err-Halted w ↦ subst (λ (e : Ended). Wrote (Halted e)) (sym w.ended-is)
+          (subst Wrote w.in-Err-Halted.field-0-is w.in-Err-Halted.ensures.stop_wrote)
+    ]
+
+pub returns-clause-wrote : goal.returns-clause-wrote
+returns-clause-wrote g c =
+    let at = (goal.at.returns-clause-wrote g c).Joined-run_all in
+    both_ok c.report.result _ _ _
+    (λ done halts journal told script config stands. counts_writes _ _ c.requires.begins.none_made
+    (left g at told script config stands) (wrote g at) halts journal)
+    c.report.ensures.halt c.report.ensures.journal
 
 -- how often readers were lent
 lent : (g : Over) (c : Joined-run_all g) (n : ℕ)

@@ -10,6 +10,7 @@ use Rattle.melt_core.specs.Lending.{with_held}
 use Rattle.melt_core.specs.declared.machine.Core.{Core}
 use Rattle.melt_safepoint.specs.Collections.{CollectsCore}
 use Rattle.melt_safepoint.specs.Shown.{Shown, shown_by}
+use Rattle.melt_safepoint.proofs.Writes.{settled_heap}
 use Rattle.melt_step.proofs.Resting.{lent_collects, lent_full, may_lend}
 use Rattle.melt_step.proofs.Resting.{kept_still}
 use Rattle.melt_step.proofs.Stored.{names_as}
@@ -61,3 +62,7 @@ returns-in-Ok-clause-stored g c =
     (stores_is (core_of c.in-Ok.heap (with_held c.finish-heap.result.1 c.collect_heap.new.registers))
     ∙ (kept_still c.finish-heap.result.0.names c.in-Ok.heap.names c.in-Ok.ensures.leaves.keeps_names
     ∙ kept g at))
+
+pub returns-in-Err-DiskFull-clause-refused_wrote : goal.returns-in-Err-DiskFull-clause-refused_wrote
+returns-in-Err-DiskFull-clause-refused_wrote g c =
+    settled_heap c.left_of.result _ _ c.left_of.ensures.heap (rw c.in-Err-DiskFull.field-0-is at c.in-Err-DiskFull.ensures.refused_wrote)

@@ -43,6 +43,8 @@ returns-in-Ok g c =
         count = c.collect_core.ensures.keeps.count;
         read_faults = c.collect_core.ensures.keeps.read_faults;
         lends = c.collect_core.ensures.keeps.lends;
+        wrote = c.in-Ok.ensures.wrote;
+        refused_wrote = tt;
       };
     }
 
@@ -69,5 +71,7 @@ returns-in-Err g c =
         count = c.collect_core.ensures.keeps.count;
         read_faults = c.collect_core.ensures.keeps.read_faults;
         lends = c.collect_core.ensures.keeps.lends;
+        wrote = tt;
+        refused_wrote = c.in-Err.ensures.refused_wrote;
       };
     }

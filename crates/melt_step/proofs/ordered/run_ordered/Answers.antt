@@ -52,6 +52,7 @@ returns-in-Err-Failed-clause-runs g c =
       ends = tt;
       shown = same;
       same_disk = c.lend.ensures.same_disk;
+      writes = c.lend.ensures.writes;
       count = c.lend.ensures.count;
       lost = tt;
       stopped = subst (λ (x : Row). StopsBut (shown_by g.D.StaleDisk.image c.args.space.now)
@@ -137,6 +138,7 @@ returns-clause-runs g c =
           (c.give_back.ensures.end ∙ c.lend.ensures.end) (c.give_back.ensures.limit ∙ c.lend.ensures.limit)
           (c.give_back.ensures.image ∙ c.lend.ensures.image);
       same_disk = c.give_back.ensures.same_disk ∙ c.lend.ensures.same_disk;
+      writes = c.give_back.ensures.writes ∙ c.lend.ensures.writes;
       count = omega (arith, c.give_back.ensures.count, c.lend.ensures.count);
       lost = subst (CountsLosses states after _) (sym c.give_back.ensures.read_faults)
           (counts_back states after _ _ _

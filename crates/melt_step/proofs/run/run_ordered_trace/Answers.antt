@@ -69,3 +69,9 @@ returns-clause-lends g c =
     IfOk-weaker c.run_by_engine.result _ _
     (λ done lends. lends 1 (record { each = λ run alloc space later first result made. search rules }) c.args.trace.now
     c.in_ok-run.ensures.idle) c.run_by_engine.ensures.lends
+
+pub returns-clause-wrote : goal.returns-clause-wrote
+returns-clause-wrote g c =
+    IfOk-weaker c.run_by_engine.result _ _
+    (λ done wrote. wrote c.tells.result c.args.trace.now c.args.config
+    (stands g (goal.at.returns-clause-wrote g c).In_ok-run)) c.run_by_engine.ensures.wrote

@@ -10,7 +10,7 @@ returns-in-Err-Fault-clause-due g c =
     let f = c.in-Err-Fault.ensures.front in
     let rose = c.in-Err-Fault.ensures.fault (cc) in
     IfOk-weaker c.line.result _ _ (λ answer h. read_failed c.args.way c.args.run _ f.0 f.1 f.2 rose
-    (record { words = refl; faults = refl; read_faults = refl }) h.0 h.1) c.line.ensures
+    (record { words = refl; faults = refl; read_faults = refl; lends = refl; writes = refl }) h.0 h.1) c.line.ensures
 
 pub returns-in-Err-TooLong-clause-due : goal.returns-in-Err-TooLong-clause-due
 returns-in-Err-TooLong-clause-due g c =
@@ -18,7 +18,7 @@ returns-in-Err-TooLong-clause-due g c =
     let told = ap (λ (error : TraceError). refused_text error.line error.reason) c.too_long.ensures in
     let long = f.3.0 (cc) in
     IfOk-weaker c.refused.result _ _ (λ answer h. too_long c.args.way c.args.run _ long f.2
-    (record { words = refl; faults = refl; read_faults = refl }) h.0 (h.1 ∙ told)) c.refused.ensures
+    (record { words = refl; faults = refl; read_faults = refl; lends = refl; writes = refl }) h.0 (h.1 ∙ told)) c.refused.ensures
 
 pub returns-in-Ok-clause-read : goal.returns-in-Ok-clause-read
 returns-in-Ok-clause-read g c =

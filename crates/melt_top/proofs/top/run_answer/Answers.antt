@@ -13,6 +13,8 @@ returns g c = record {
   logged = c.in_ok-report.ensures.stored;
   shows = search rules;
   counts = search rules;
+  lends = search rules;
+  writes = search rules;
   complete = λ served. all_end_well _ _ _ c.in_ok-report.report _
       (c.in_ok-report.ensures.has_run true (λ yes. rw c.new-space.ensures.disk served.tells)).reported.ends (search rules)
       served;

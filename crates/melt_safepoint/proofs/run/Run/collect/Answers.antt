@@ -4,6 +4,7 @@ use Rattle.melt_model.specs.declared.reports.Journal.{Journal}
 use Rattle.melt_move.specs.Planned.{phase_done}
 use Rattle.melt_safepoint.proofs.Collected.{refused_failed, refused_full, stands_failed, stands_full, waits_goes}
 use Rattle.melt_safepoint.proofs.Journals.{halted_counts}
+use Rattle.melt_safepoint.proofs.Writes.{full_settled, stop_wrote_failed, stop_wrote_full}
 use Rattle.melt_safepoint.proofs.run.Run.collect.Goals as goal
 
 -- the journal of a run that is halted is that of before
@@ -30,6 +31,19 @@ returns-in-Err-DiskFull-clause-stop_counts g c = (
 pub returns-in-Err-DiskFull-clause-stop_keeps : goal.returns-in-Err-DiskFull-clause-stop_keeps
 returns-in-Err-DiskFull-clause-stop_keeps g c =
     halted_journal c.halt_run.ensures.journal c.in-Err-DiskFull.ensures.journal_stays
+
+pub returns-in-Err-DiskFull-clause-stop_wrote : goal.returns-in-Err-DiskFull-clause-stop_wrote
+returns-in-Err-DiskFull-clause-stop_wrote g c =
+    stop_wrote_full _ _ _ _ _ _ c.halt_run.result.halt c.halt_run.result.left c.halt_run.result.journal.items
+    c.halt_run.ensures.halt
+    (halted_journal c.halt_run.ensures.journal c.in-Err-DiskFull.ensures.journal_stays)
+    (full_settled _ _ c.in-Err-DiskFull.field-0-is c.in-Err-DiskFull.ensures.refused_wrote c.halt_run.ensures.left)
+
+pub returns-clause-stop_wrote : goal.returns-clause-stop_wrote
+returns-clause-stop_wrote g c =
+    stop_wrote_failed _ c.halt_run-in-Err-DiskFault.result.journal.items _ _
+    c.halt_run-in-Err-DiskFault.result.halt c.halt_run-in-Err-DiskFault.result.left
+    c.halt_run-in-Err-DiskFault.ensures.halt
 
 pub returns-clause-stop_keeps : goal.returns-clause-stop_keeps
 returns-clause-stop_keeps g c =

@@ -17,6 +17,7 @@ use Rattle.melt_safepoint.proofs.TakingCollections.{SameEpoch, WasCollected, col
 use Rattle.melt_safepoint.proofs.TakingCollections.{collecting_room, drops_same, keeps_taken, made_for}
 use Rattle.melt_safepoint.proofs.TakingCollections.{made_none, state_read, was_collected}
 use Rattle.melt_safepoint.proofs.Threads.{set_got}
+use Rattle.melt_safepoint.proofs.Writes.{wrote_none}
 use Rattle.melt_safepoint.proofs.run.Run.collect_for.Given.{Over}
 use Rattle.melt_safepoint.proofs.run.Run.collect_for.Goals as goal
 use Rattle.melt_safepoint.proofs.run.Run.collect_for.Goals.{After-index, After-drop_if_ended, In_ok-run}
@@ -60,6 +61,8 @@ returns-in_default g c =
       stores = tt;
       lends = refl;
       stop_keeps = tt;
+      wrote = wrote_none _ _ _ _ refl refl;
+      stop_wrote = tt;
     }
 
 pub collect-requires : goal.collect-requires
@@ -158,3 +161,6 @@ returns-clause-lost g c =
     rw c.drop_if_ended.ensures.only
     (taken_losses c.in_ok-run.run'.every c.args.self.states.items c.in_ok-run.run'.states.items c.args.thread
     c.index.result.now c.take_collection.new.self c.in_ok-run.ensures.made.states by.at by.waits by.takes)
+
+pub returns-clause-wrote : goal.returns-clause-wrote
+returns-clause-wrote g c = rw c.drop_if_ended.ensures.only c.in_ok-run.ensures.wrote

@@ -11,6 +11,7 @@ use Rattle.melt_safepoint.proofs.Composing.{stop_counts_then, stops_there}
 use Rattle.melt_safepoint.proofs.OwnCollections.{below_none, below_more, below_all}
 use Rattle.melt_safepoint.specs.Rows.{Row, journal_of, row_of}
 use Rattle.melt_safepoint.proofs.StopLends.{twice_stop_none}
+use Rattle.melt_safepoint.proofs.Writes.{stop_wrote_then, wrote_none, wrote_then}
 use Rattle.melt_safepoint.proofs.run.Run.collect_for_all.Goals as goal
 
 pub collect_for-requires : goal.collect_for-requires
@@ -43,6 +44,7 @@ loop-t-init g c =
       below = collected_none c.args.self.states.items;
       made = below_none _ (row_of g.E.Machine.view c.args.self);
       lost = refl;
+      wrote = wrote_none _ _ _ _ refl refl;
       count = omega arith;
       same_disk = refl;
       lends = refl;
@@ -65,6 +67,7 @@ loop-t-preserved g c =
       made = below_more c.loop-t.invariant.made state.1 c.loop-t.invariant.keeps
           (c.in_ok-run.ensures.made state.0 (below.rest c.loop-t.t (omega arith) ∙ state.1));
       lost = c.in_ok-run.ensures.lost ∙ c.loop-t.invariant.lost;
+      wrote = wrote_then c.loop-t.invariant.wrote c.in_ok-run.ensures.wrote;
       count = omega (arith, c.in_ok-run.ensures.count, c.loop-t.invariant.count);
       same_disk = c.in_ok-run.ensures.same_disk ∙ c.loop-t.invariant.same_disk;
       lends = c.in_ok-run.ensures.lends ∙ c.loop-t.invariant.lends;
@@ -85,6 +88,11 @@ returns-in_err-run-clause-stop_counts g c =
     (stop_counts_then _ _ _ _ _ c.loop-t.invariant.count c.in_err-run.ensures.count
     (counts_same c.args.self.states.items c.loop-t.run.states.items _ _
     c.loop-t.invariant.lost (omega (arith, c.loop-t.invariant.read_faults))) c.in_err-run.ensures.stop_counts)
+
+pub returns-in_err-run-clause-stop_wrote : goal.returns-in_err-run-clause-stop_wrote
+returns-in_err-run-clause-stop_wrote g c =
+    let exit = err_from_is_err_and c.from_residual.result c.from_residual.ensures.1 in
+    rw (exit.1, exit.2) (stop_wrote_then _ _ c.loop-t.invariant.wrote c.in_err-run.ensures.stop_wrote)
 
 pub returns-in_err-run-clause-stop_lends : goal.returns-in_err-run-clause-stop_lends
 returns-in_err-run-clause-stop_lends g c =

@@ -5,14 +5,16 @@ use Rattle.std.specs.Prelude.{Bool, Some}
 use Rattle.melt_model.specs.declared.config.Config.{Config}
 use Rattle.melt_trace.specs.Script.{Script}
 use Rattle.melt_safepoint.specs.Epochs.{LacksFirst, RunsEpoch, to_do}
-use Rattle.melt_safepoint.specs.Rows.{AwaitsCall, LacksWords, RunStands, row_of}
+use Rattle.melt_safepoint.specs.Rows.{AwaitsCall, LacksWords, RunStands, journal_of, row_of}
 use Rattle.melt_safepoint.specs.Shown.{Shown}
+use Rattle.melt_safepoint.specs.Writes.{WroteSince}
 use Rattle.melt_safepoint.specs.declared.collector.Collector.{Collector}
 use Rattle.melt_safepoint.proofs.Composing.{stop_counts_then}
 use Rattle.melt_safepoint.proofs.Lends.{lends_more, lends_one, lends_then}
 use Rattle.melt_safepoint.proofs.Losses.{counts_then}
 use Rattle.melt_safepoint.proofs.StopLends.{stop_more, stop_one, stop_then}
 use Rattle.melt_safepoint.proofs.TwoMoves.{if_err_from, if_ok_from, stops_first}
+use Rattle.melt_safepoint.proofs.Writes.{stop_wrote_none, stop_wrote_then, wrote_none, wrote_then}
 use Rattle.melt_safepoint.proofs.run.Run.make_room.Given.{Over}
 use Rattle.melt_safepoint.proofs.run.Run.make_room.Goals as goal
 use Rattle.melt_safepoint.proofs.run.Run.make_room.Goals.{In-None, In-Some}
@@ -33,6 +35,11 @@ returns-in_err-run-clause-stop_lends g c =
     let exit = err_from_is_err_and c.from_residual.result c.from_residual.ensures.1 in
     rw (exit.1, exit.2) (λ n by. stop_more _ 2 _ _ _ _ (omega arith)
     (stop_one _ _ _ _ _ (c.run_epoch.ensures.lends n by) c.in_err-run.ensures.stop_keeps))
+
+pub returns-in_err-run-clause-stop_wrote : goal.returns-in_err-run-clause-stop_wrote
+returns-in_err-run-clause-stop_wrote g c =
+    let exit = err_from_is_err_and c.from_residual.result c.from_residual.ensures.1 in
+    rw (exit.1, exit.2) (stop_wrote_none _ _ _ _ c.in_err-run.ensures.stop_keeps c.run_epoch.ensures.writes)
 
 -- what was seen of the disk is seen still
 seen : (g : Over) (c : In-None g) → g.S.DiskSpace.sees.shown c.run_epoch.new.space
@@ -67,10 +74,22 @@ returns-in-None-clause-lends g c =
     λ n by. lends_more 2 (omega arith)
     (lends_one _ _ _ _ _ (c.run_epoch.ensures.lends n by) (ap (λ (x : Collector). x.journal.items) runs.collector))
 
+pub returns-in-None-clause-wrote : goal.returns-in-None-clause-wrote
+returns-in-None-clause-wrote g c =
+    let runs = made g (goal.at.returns-in-None-clause-wrote g c).In-None in
+    wrote_none _ _ _ _ (ap (λ (x : Collector). x.journal.items) runs.collector) c.run_epoch.ensures.writes
+
 -- the call lacked words
 lacked : (g : Over) (c : In-Some g) → LacksFirst (g.S.DiskSpace.sees.shown c.args.space.now) c.args.thread
     c.in-Some.need (row_of g.E.Machine.view c.args.self) (row_of g.E.Machine.view c.in_ok-run.run')
 lacked g c = rw c.in-Some.is at c.in_ok-run.ensures.ends
+
+-- and nothing was written
+lacked_wrote : (g : Over) (c : In-Some g) → WroteSince (journal_of (row_of g.E.Machine.view c.args.self))
+    (journal_of (row_of g.E.Machine.view c.in_ok-run.run')) (g.S.DiskSpace.sees.writes c.args.space.now)
+    (g.S.DiskSpace.sees.writes c.run_epoch.new.space)
+lacked_wrote g c =
+    wrote_none _ _ _ _ (ap (λ (x : Collector). x.journal.items) (lacked g c).collector) c.run_epoch.ensures.writes
 
 -- told of what is seen then
 lacks : (g : Over) (c : In-Some g) (told : Bool) (script : Script) (config : Config)
@@ -127,6 +146,17 @@ returns-in-Some-clause-lends g c =
     (lends_one _ _ _ _ _ (c.run_epoch.ensures.lends n by) (ap (λ (x : Collector). x.journal.items) lack.collector))
     (lends n by))
     c.move_for.ensures.lends
+
+pub returns-in-Some-clause-wrote : goal.returns-in-Some-clause-wrote
+returns-in-Some-clause-wrote g c =
+    let at = (goal.at.returns-in-Some-clause-wrote g c).In-Some in
+    if_ok_from c.move_for.result _ _ (λ run wrote. wrote_then (lacked_wrote g at) wrote) c.move_for.ensures.wrote
+
+pub returns-in-Some-clause-stop_wrote : goal.returns-in-Some-clause-stop_wrote
+returns-in-Some-clause-stop_wrote g c =
+    let at = (goal.at.returns-in-Some-clause-stop_wrote g c).In-Some in
+    if_err_from c.move_for.result _ _ (λ stop wrote. stop_wrote_then _ stop (lacked_wrote g at) wrote)
+    c.move_for.ensures.stop_wrote
 
 pub returns-in-Some-clause-stopped : goal.returns-in-Some-clause-stopped
 returns-in-Some-clause-stopped g c =

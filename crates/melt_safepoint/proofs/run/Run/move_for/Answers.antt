@@ -14,6 +14,7 @@ use Rattle.melt_safepoint.specs.Losses.{CountsLosses, losses}
 use Rattle.melt_safepoint.specs.Passing.{NoneOwn}
 use Rattle.melt_safepoint.specs.Rows.{AwaitsCall, LacksWords, RunStands, journal_of, row_of}
 use Rattle.melt_safepoint.specs.Shown.{Shown}
+use Rattle.melt_safepoint.specs.Writes.{WroteSince}
 use Rattle.melt_safepoint.specs.declared.collector.Collector.{Collector}
 use Rattle.melt_safepoint.proofs.Collected.{journal_more, may_collect, moved_one}
 use Rattle.melt_safepoint.proofs.Composing.{stop_counts_then}
@@ -25,6 +26,7 @@ use Rattle.melt_safepoint.proofs.Losses.{counts_same, counts_then}
 use Rattle.melt_safepoint.proofs.StopLends.{stop_after, stop_more, stop_one, stop_since, stop_then}
 use Rattle.melt_safepoint.proofs.TwoMoves.{awaits_again, forced_stops, if_err_from, if_ok_from, no_room_left}
 use Rattle.melt_safepoint.proofs.TwoMoves.{moved_again, moved_none}
+use Rattle.melt_safepoint.proofs.Writes.{stop_wrote_none, stop_wrote_then, wrote_none, wrote_then}
 use Rattle.melt_safepoint.proofs.run.Run.move_for.Given.{Over}
 use Rattle.melt_safepoint.proofs.run.Run.move_for.Goals as goal
 use Rattle.melt_safepoint.proofs.run.Run.move_for.Goals.{After-out_of_heap, In_ok-moved, In_ok-next, In-None, In-Some}
@@ -37,6 +39,7 @@ loop-forced-init g c = record {
       c.args.need;
   states = refl;
   lost = counts_same c.args.self.states.items c.args.self.states.items _ _ refl (omega arith);
+  wrote = wrote_none _ _ _ _ refl refl;
   lends = λ n by. lends_none _ _ _ _ _ refl (omega arith);
   count = omega arith;
   same_disk = refl;
@@ -70,6 +73,11 @@ returns-in_err-moved-clause-stopped g c =
       λ is. still.tight,
       room_waits c.loop-forced.run.states.items c.args.thread still.waits,
     ))
+
+pub returns-in_err-moved-clause-stop_wrote : goal.returns-in_err-moved-clause-stop_wrote
+returns-in_err-moved-clause-stop_wrote g c =
+    let exit = err_from_is_err_and c.from_residual.result c.from_residual.ensures.1 in
+    rw (exit.1, exit.2) (stop_wrote_then _ _ c.loop-forced.invariant.wrote c.in_err-moved.ensures.stop_wrote)
 
 -- after one Move more the thread awaits its call
 awaits : (g : Over) (c : In_ok-moved g) (told : Bool) (script : Script) (config : Config)
@@ -125,6 +133,20 @@ returns-in_err-next-clause-stop_lends g c =
     (stop_after _ 0 _ _ (journal_of (row_of g.E.Machine.view c.in_ok-moved.moved)) _ c.collect.ensures.lends
     (omega (arith, journal_more c.in_ok-moved.ensures.made))
     (stop_one _ _ _ _ _ (c.run_epoch.ensures.lends n by) c.in_err-next.ensures.stop_keeps))))
+
+-- what was written with the Move
+move_wrote : (g : Over) (c : In_ok-moved g)
+    → WroteSince (journal_of (row_of g.E.Machine.view c.args.self))
+    (journal_of (row_of g.E.Machine.view c.in_ok-moved.moved)) (g.S.DiskSpace.sees.writes c.args.space.now)
+    (g.S.DiskSpace.sees.writes c.collect.new.space)
+move_wrote g c = wrote_then c.loop-forced.invariant.wrote c.in_ok-moved.ensures.wrote
+
+pub returns-in_err-next-clause-stop_wrote : goal.returns-in_err-next-clause-stop_wrote
+returns-in_err-next-clause-stop_wrote g c =
+    let exit = err_from_is_err_and c.from_residual-in_err-next.result c.from_residual-in_err-next.ensures.1 in
+    let at = (goal.at.returns-in_err-next-clause-stop_wrote g c).In_ok-moved in
+    rw (exit.1, exit.2) (stop_wrote_then _ _ (move_wrote g at)
+    (stop_wrote_none _ _ _ _ c.in_err-next.ensures.stop_keeps c.run_epoch.ensures.writes))
 
 -- how the Move was made, and what the call came to after it
 once : (g : Over) (c : In_ok-next g) (told : Bool) (script : Script) (config : Config) (lacks : Option ℕ)
@@ -184,6 +206,21 @@ returns-in-None-clause-lends g c =
     λ n by. lends_more 1 (omega arith)
     (once_lends g at.In_ok-next (ap (λ (x : Collector). x.journal.items) (made g at.In-None).collector) n by)
 
+-- an epoch in which no collection was made wrote nothing
+once_wrote : (g : Over) (c : In_ok-next g)
+    → journal_of (row_of g.E.Machine.view c.in_ok-next.next) ≡ journal_of (row_of g.E.Machine.view c.in_ok-moved.moved)
+    → WroteSince (journal_of (row_of g.E.Machine.view c.args.self))
+    (journal_of (row_of g.E.Machine.view c.in_ok-next.next)) (g.S.DiskSpace.sees.writes c.args.space.now)
+    (g.S.DiskSpace.sees.writes c.run_epoch.new.space)
+once_wrote g c same =
+    wrote_then (move_wrote g (goal.at.In_ok-next g c).In_ok-moved)
+    (wrote_none _ (journal_of (row_of g.E.Machine.view c.in_ok-next.next)) _ _ same c.run_epoch.ensures.writes)
+
+pub returns-in-None-clause-wrote : goal.returns-in-None-clause-wrote
+returns-in-None-clause-wrote g c =
+    let at = goal.at.returns-in-None-clause-wrote g c in
+    once_wrote g at.In_ok-next (ap (λ (x : Collector). x.journal.items) (made g at.In-None).collector)
+
 -- the call lacked words after the Move too
 lacked : (g : Over) (c : In-Some g) → LacksFirst (g.S.DiskSpace.sees.shown c.collect.new.space) c.args.thread
     c.in-Some.more
@@ -207,6 +244,7 @@ loop-forced-preserved g c =
       states = lack.states ∙ c.in_ok-moved.ensures.made.states ∙ c.loop-forced.invariant.states;
       lost = counts_then c.args.self.states.items c.in_ok-moved.moved.states.items c.in_ok-next.next.states.items _ _ _
           (move_lost g at.In_ok-moved) c.in_ok-next.ensures.lost;
+      wrote = once_wrote g at.In_ok-next (ap (λ (x : Collector). x.journal.items) lack.collector);
       lends = once_lends g at.In_ok-next (ap (λ (x : Collector). x.journal.items) lack.collector);
       count = omega (arith, c.loop-forced.invariant.count, c.collect.ensures.count, c.run_epoch.ensures.count);
       same_disk = c.run_epoch.ensures.same_disk ∙ c.collect.ensures.same_disk ∙ c.loop-forced.invariant.same_disk;
@@ -303,6 +341,27 @@ returns-clause-rests g c =
     if_ok_from c.next_epoch.result _ _ (λ run goes.
     goes_rests _ (row_of g.E.Machine.view c.out_of_heap.result) (row_of g.E.Machine.view run) goes)
     c.next_epoch.ensures.goes
+
+-- no collection was made as the thread ended
+gone_journal : (g : Over) (c : After-out_of_heap g)
+    → journal_of (row_of g.E.Machine.view c.out_of_heap.result) ≡ journal_of (row_of g.E.Machine.view c.loop-forced.run)
+gone_journal g c = ap (λ (x : Collector). x.journal.items) c.out_of_heap.ensures.gone.collector
+
+pub returns-clause-wrote : goal.returns-clause-wrote
+returns-clause-wrote g c =
+    let at = (goal.at.returns-clause-wrote g c).After-out_of_heap in
+    if_ok_from c.next_epoch.result _ _ (λ run goes. wrote_then c.loop-forced.invariant.wrote
+    (wrote_none _ (journal_of (row_of g.E.Machine.view run)) _ _
+    (goes_journal _ (row_of g.E.Machine.view c.out_of_heap.result) (row_of g.E.Machine.view run) goes
+    ∙ gone_journal g at) c.next_epoch.ensures.writes)) c.next_epoch.ensures.goes
+
+pub returns-clause-stop_wrote : goal.returns-clause-stop_wrote
+returns-clause-stop_wrote g c =
+    let at = (goal.at.returns-clause-stop_wrote g c).After-out_of_heap in
+    if_err_from c.next_epoch.result _ _ (λ stop keeps. stop_wrote_then _ stop
+    (wrote_then c.loop-forced.invariant.wrote (wrote_none _ (journal_of (row_of g.E.Machine.view c.out_of_heap.result))
+    (g.S.DiskSpace.sees.writes c.loop-forced.space) _ (gone_journal g at) refl))
+    (stop_wrote_none _ _ _ stop keeps c.next_epoch.ensures.writes)) c.next_epoch.ensures.stop_keeps
 
 pub returns-clause-lends : goal.returns-clause-lends
 returns-clause-lends g c =

@@ -7,6 +7,7 @@ use Rattle.melt_safepoint.specs.Engines.{LendsEach}
 use Rattle.melt_safepoint.specs.Lends.{LendsFew}
 use Rattle.melt_safepoint.specs.Losses.{CountsLosses}
 use Rattle.melt_safepoint.specs.Rows.{LacksWords, journal_of, row_of}
+use Rattle.melt_safepoint.specs.Writes.{WroteSince}
 use Rattle.melt_safepoint.proofs.TwoMoves.{Moved}
 use Rattle.melt_safepoint.proofs.run.Run.move_for.Given as goal
 
@@ -32,6 +33,8 @@ invariant-loop-forced g l = record {
   states : l.run.states.items ≡ l.fn.self.states.items;
   lost : CountsLosses l.fn.self.states.items l.run.states.items (g.S.DiskSpace.sees.read_faults l.fn.space)
       (g.S.DiskSpace.sees.read_faults l.space);
+  wrote : WroteSince (journal_of (row_of g.E.Machine.view l.fn.self)) (journal_of (row_of g.E.Machine.view l.run))
+      (g.S.DiskSpace.sees.writes l.fn.space) (g.S.DiskSpace.sees.writes l.space);
   lends : (n : ℕ) → LendsEach g.C.Fn g.F.Fn g.E.Machine.view g.E.Machine.stored g.S.DiskSpace.sees l.fn.engine n
       → LendsFew n 0 (g.S.DiskSpace.sees.lends l.fn.space) (g.S.DiskSpace.sees.lends l.space)
       (journal_of (row_of g.E.Machine.view l.fn.self)) (journal_of (row_of g.E.Machine.view l.run));

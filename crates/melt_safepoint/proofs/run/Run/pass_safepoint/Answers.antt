@@ -12,6 +12,7 @@ use Rattle.melt_safepoint.specs.Passing.{NoneOwn, OneWaits}
 use Rattle.melt_safepoint.specs.Rows.{AwaitsCall, Row, RunStands, journal_of, row_of}
 use Rattle.melt_safepoint.specs.Shown.{Shown}
 use Rattle.melt_safepoint.specs.Threads.{SomeGoesOn, collections_due}
+use Rattle.melt_safepoint.specs.Writes.{WroteSince}
 use Rattle.melt_safepoint.specs.declared.thread.ThreadState.{ThreadState}
 use Rattle.melt_safepoint.proofs.Collected.{may_collect}
 use Rattle.melt_safepoint.proofs.Composing.{BeforeCall, awaits_call, before_made, before_same, stop_counts_then}
@@ -25,6 +26,7 @@ use Rattle.melt_safepoint.proofs.Safepoints.{lowest_before, none_lacks, none_own
 use Rattle.melt_safepoint.proofs.StopLends.{stop_more, stop_one, stop_twice, twice_stop_none}
 use Rattle.melt_safepoint.proofs.ToDo.{collected_within}
 use Rattle.melt_safepoint.proofs.TwoMoves.{if_err_from, if_ok_from}
+use Rattle.melt_safepoint.proofs.Writes.{stop_wrote_none, stop_wrote_then, wrote_none, wrote_then}
 use Rattle.melt_safepoint.proofs.run.Run.pass_safepoint.Given.{Over}
 use Rattle.melt_safepoint.proofs.run.Run.pass_safepoint.Goals as goal
 use Rattle.melt_safepoint.proofs.run.Run.pass_safepoint.Goals.{In_ok-run, In_default, Joined-len-made}
@@ -137,6 +139,13 @@ returns-in_default-clause-lost g c =
     if_ok_from c.next_epoch.result _ _ (λ run more. counts_then c.args.self.states.items c.in_ok-run.run'.states.items
     run.states.items _ _ _ (lost g at) more) c.next_epoch.ensures.lost
 
+pub returns-in_default-clause-wrote : goal.returns-in_default-clause-wrote
+returns-in_default-clause-wrote g c =
+    if_ok_from c.next_epoch.result _ _ (λ run goes. wrote_then c.in_ok-run.ensures.wrote
+    (wrote_none _ (journal_of (row_of g.E.Machine.view run)) _ _
+    (goes_journal _ (row_of g.E.Machine.view c.in_ok-run.run') (row_of g.E.Machine.view run) goes)
+    c.next_epoch.ensures.writes)) c.next_epoch.ensures.goes
+
 -- one collection at least was made for the threads
 some_own : (n : ℕ) → n ≢ 0 → 1 ≤ n
 some_own zero some = absurd (some refl)
@@ -170,6 +179,11 @@ returns-in_default-clause-stop_counts g c =
     if_err_from c.next_epoch.result _ _ (λ stop counts. stop_counts_then stop _ _ _ _ c.in_ok-run.ensures.count
     c.next_epoch.ensures.count (lost g at) counts)
     c.next_epoch.ensures.stop_counts
+
+pub returns-in_default-clause-stop_wrote : goal.returns-in_default-clause-stop_wrote
+returns-in_default-clause-stop_wrote g c =
+    if_err_from c.next_epoch.result _ _ (λ stop keeps. stop_wrote_then _ stop c.in_ok-run.ensures.wrote
+    (stop_wrote_none _ _ _ stop keeps c.next_epoch.ensures.writes)) c.next_epoch.ensures.stop_keeps
 
 pub returns-in_default-clause-stop_lends : goal.returns-in_default-clause-stop_lends
 returns-in_default-clause-stop_lends g c =
@@ -211,6 +225,11 @@ returns-in_err-run-2-clause-stop_counts g c =
     rw (exit.1, exit.2)
     (stop_counts_then _ _ _ _ _ c.in_ok-run.ensures.count c.in_err-run-2.ensures.count
     (lost g (goal.at.returns-in_err-run-2-clause-stop_counts g c).In_ok-run) c.in_err-run-2.ensures.stop_counts)
+
+pub returns-in_err-run-2-clause-stop_wrote : goal.returns-in_err-run-2-clause-stop_wrote
+returns-in_err-run-2-clause-stop_wrote g c =
+    let exit = err_from_is_err_and c.from_residual-in_err-run-2.result c.from_residual-in_err-run-2.ensures.1 in
+    rw (exit.1, exit.2) (stop_wrote_then _ _ c.in_ok-run.ensures.wrote c.in_err-run-2.ensures.stop_wrote)
 
 pub returns-in_err-run-2-clause-stop_lends : goal.returns-in_err-run-2-clause-stop_lends
 returns-in_err-run-2-clause-stop_lends g c =
@@ -279,6 +298,17 @@ before_lends g c =
     elim c.if-len-made.branch [
       | then-len-made+in_ok-run-2 w ↦ rw w.space-is (w.in_ok-run-2.ensures.lends ∙ c.in_ok-run.ensures.lends)
       | else-len-made w ↦ rw w.space-is c.in_ok-run.ensures.lends
+    ]
+
+-- what was written before the call
+before_wrote : (g : Over) (c : Joined-len-made g) → WroteSince (journal_of (row_of g.E.Machine.view c.args.self))
+    (journal_of (row_of g.E.Machine.view c.if-len-made.run)) (g.S.DiskSpace.sees.writes c.args.space.now)
+    (g.S.DiskSpace.sees.writes c.if-len-made.space)
+before_wrote g c =
+    elim c.if-len-made.branch [
+      | then-len-made+in_ok-run-2 w ↦ rw (w.space-is, w.run-is)
+          (wrote_then c.in_ok-run.ensures.wrote w.in_ok-run-2.ensures.wrote)
+      | else-len-made w ↦ rw (w.space-is, w.run-is) c.in_ok-run.ensures.wrote
     ]
 
 -- and the disk is the one of before
@@ -370,6 +400,17 @@ returns-clause-lends g c =
     lends_twice _ _ _ (journal_of (row_of g.E.Machine.view c.args.self)) js
     (omega (arith, before_longer g at, lends.grows))
     (lends_after 1 _ (before_lends g at) (before_longer g at) lends)) c.make_room.ensures.lends
+
+pub returns-clause-wrote : goal.returns-clause-wrote
+returns-clause-wrote g c =
+    let at = (goal.at.returns-clause-wrote g c).Joined-len-made in
+    if_ok_from c.make_room.result _ _ (λ run wrote. wrote_then (before_wrote g at) wrote) c.make_room.ensures.wrote
+
+pub returns-clause-stop_wrote : goal.returns-clause-stop_wrote
+returns-clause-stop_wrote g c =
+    let at = (goal.at.returns-clause-stop_wrote g c).Joined-len-made in
+    if_err_from c.make_room.result _ _ (λ stop wrote. stop_wrote_then _ stop (before_wrote g at) wrote)
+    c.make_room.ensures.stop_wrote
 
 pub returns-clause-same_disk : goal.returns-clause-same_disk
 returns-clause-same_disk g c =

@@ -8,6 +8,7 @@ use Rattle.melt_safepoint.proofs.Epochs.{goes_ended, goes_journal, goes_keeps, g
 use Rattle.melt_safepoint.proofs.Lends.{all_not_some, twice_first, twice_then}
 use Rattle.melt_safepoint.proofs.Losses.{counts_then}
 use Rattle.melt_safepoint.proofs.StopLends.{twice_stop_first, twice_stop_then}
+use Rattle.melt_safepoint.proofs.Writes.{stop_wrote_none, stop_wrote_then, wrote_none, wrote_then}
 use Rattle.melt_safepoint.proofs.run.Run.run_all.Goals as goal
 
 pub next_epoch-requires : goal.next_epoch-requires
@@ -31,6 +32,11 @@ returns-in_err-run-clause-stop_lends g c =
     rw (exit.1, exit.2)
     (λ n by. twice_stop_first _ _ _ _ _ (c.next_epoch.ensures.lends n by) c.in_err-run.ensures.stop_keeps)
 
+pub returns-in_err-run-clause-stop_wrote : goal.returns-in_err-run-clause-stop_wrote
+returns-in_err-run-clause-stop_wrote g c =
+    let exit = err_from_is_err_and c.from_residual.result c.from_residual.ensures.1 in
+    rw (exit.1, exit.2) (stop_wrote_none _ _ _ _ c.in_err-run.ensures.stop_keeps c.next_epoch.ensures.writes)
+
 pub loop-alloc-init : goal.loop-alloc-init
 loop-alloc-init g c =
     let old : Row = row_of g.E.Machine.view c.args.self in
@@ -42,6 +48,7 @@ loop-alloc-init g c =
           (goes_keeps told script config _ old new goes stands c.requires.settled c.requires.own);
       rests = goes_rests _ old new goes;
       lost = c.in_ok-run.ensures.lost;
+      wrote = wrote_none _ _ _ _ (goes_journal _ old new goes) c.next_epoch.ensures.writes;
       lends = λ n by. twice_first _ _ _ _ _ (c.next_epoch.ensures.lends n by) (goes_journal _ old new goes);
       idle = λ all. (goes_ended _ old new goes all, c.next_epoch.ensures.idle all);
       count = c.next_epoch.ensures.count;
@@ -68,6 +75,7 @@ loop-alloc-preserved g c = record {
   rests = c.in_ok-run-2.ensures.rests;
   lost = counts_then c.args.self.states.items c.loop-alloc.run.states.items c.in_ok-run-2.run'.states.items _ _ _
       c.loop-alloc.invariant.lost c.in_ok-run-2.ensures.lost;
+  wrote = wrote_then c.loop-alloc.invariant.wrote c.in_ok-run-2.ensures.wrote;
   lends = λ n by. twice_then (c.loop-alloc.invariant.lends n by) (c.in_ok-run-2.ensures.lends n by);
   idle = λ all.
       absurd (all_not_some c.loop-alloc.run.states.items (c.has_ended.ensures.goes c.loop-alloc-test.true)
@@ -95,6 +103,11 @@ returns-in_err-run-2-clause-stop_counts g c =
     (stop_counts_then _ _ _ _ _ c.loop-alloc.invariant.count c.pass_safepoint.ensures.count c.loop-alloc.invariant.lost
     c.in_err-run-2.ensures.stop_counts)
 
+pub returns-in_err-run-2-clause-stop_wrote : goal.returns-in_err-run-2-clause-stop_wrote
+returns-in_err-run-2-clause-stop_wrote g c =
+    let exit = err_from_is_err_and c.from_residual-in_err-run-2.result c.from_residual-in_err-run-2.ensures.1 in
+    rw (exit.1, exit.2) (stop_wrote_then _ _ c.loop-alloc.invariant.wrote c.in_err-run-2.ensures.stop_wrote)
+
 pub returns-in_err-run-2-clause-stop_lends : goal.returns-in_err-run-2-clause-stop_lends
 returns-in_err-run-2-clause-stop_lends g c =
     let exit = err_from_is_err_and c.from_residual-in_err-run-2.result c.from_residual-in_err-run-2.ensures.1 in
@@ -118,6 +131,9 @@ returns-clause-ended g c = λ told script config stands.
 
 pub returns-clause-lost : goal.returns-clause-lost
 returns-clause-lost g c = rw c.end.ensures.states c.loop-alloc.invariant.lost
+
+pub returns-clause-wrote : goal.returns-clause-wrote
+returns-clause-wrote g c = rw c.end.ensures.journal c.loop-alloc.invariant.wrote
 
 pub returns-clause-lends : goal.returns-clause-lends
 returns-clause-lends g c = rw c.end.ensures.journal c.loop-alloc.invariant.lends

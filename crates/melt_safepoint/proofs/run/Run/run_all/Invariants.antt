@@ -6,6 +6,7 @@ use Rattle.melt_safepoint.specs.Lends.{LendsTwice}
 use Rattle.melt_safepoint.specs.Losses.{CountsLosses}
 use Rattle.melt_safepoint.specs.Rows.{KeepsRun, journal_of, row_of}
 use Rattle.melt_safepoint.specs.Threads.{AllEnded}
+use Rattle.melt_safepoint.specs.Writes.{WroteSince}
 use Rattle.melt_safepoint.proofs.run.Run.run_all.Given as goal
 
 abbrev pub decreases-loop-alloc : goal.decreases-loop-alloc
@@ -19,6 +20,8 @@ invariant-loop-alloc g l = record {
   rests : RestsWell l.run.states.items;
   lost : CountsLosses l.fn.self.states.items l.run.states.items (g.S.DiskSpace.sees.read_faults l.fn.space)
       (g.S.DiskSpace.sees.read_faults l.space);
+  wrote : WroteSince (journal_of (row_of g.E.Machine.view l.fn.self)) (journal_of (row_of g.E.Machine.view l.run))
+      (g.S.DiskSpace.sees.writes l.fn.space) (g.S.DiskSpace.sees.writes l.space);
   lends : (n : ℕ) → LendsEach g.C.Fn g.F.Fn g.E.Machine.view g.E.Machine.stored g.S.DiskSpace.sees l.fn.engine n
       → LendsTwice n 1 (g.S.DiskSpace.sees.lends l.fn.space) (g.S.DiskSpace.sees.lends l.space)
       (journal_of (row_of g.E.Machine.view l.fn.self)) (journal_of (row_of g.E.Machine.view l.run));
