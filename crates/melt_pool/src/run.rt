@@ -95,7 +95,8 @@ fn run_parallel<'a, X: Threads + Sync, D: StaleDisk, G: Gate + Sync>(
     requires may { SomeMayRun (shown_by D.image space.old) first (row_of parallel_view run) }
     ensures so { RunsSo parallel_view (λ _. []) (sees_stale D.image D.faults D.read_faults D.lends D.writes) run.entry space.old
         space.new first result }
-    ensures lends { LendsAtMost 8 (D.lends space.old.disk.now) (D.lends space.new.disk.now) }
+    ensures lends { LendsAtMost (length run.entry.states.items) (D.lends space.old.disk.now)
+        (D.lends space.new.disk.now) }
 {
     if run.states.is_empty() {
         return Ok((run, None));
@@ -205,7 +206,8 @@ fn run_epochs<'a, X: Threads + Sync, D: StaleDisk, G: Gate + Sync>(
     ensures counts { IfOk result (λ done. CountsFaults done.0 (D.faults space.old.disk.now)
         (D.faults space.new.disk.now) (D.read_faults space.old.disk.now) (D.read_faults space.new.disk.now)) }
     ensures lends { IfOk result (λ done. (script : Script) → (HasNoOperations script → AllEnded run.entry.states.items)
-        → CountsLends 8 script done.0 (D.lends space.old.disk.now) (D.lends space.new.disk.now)) }
+        → CountsLends (length run.entry.states.items) script done.0 (D.lends space.old.disk.now)
+        (D.lends space.new.disk.now)) }
     ensures wrote { IfOk result (λ done. (told : Bool) (script : Script) (config : Config)
         → RunStands told script config (shown_by D.image space.old) (row_of parallel_view run.entry)
         → CountsWrites config done.0.halt done.0.journal (D.writes space.old.disk.now)
@@ -225,7 +227,8 @@ fn run_epochs<'a, X: Threads + Sync, D: StaleDisk, G: Gate + Sync>(
             requires may { SomeMayRun (shown_by D.image space.old) first (row_of parallel_view run) }
             ensures runs { RunsSo parallel_view (λ _. []) (sees_stale D.image D.faults D.read_faults D.lends D.writes) run.entry
                 space.old space.new first result }
-            ensures lends { LendsAtMost 8 (D.lends space.old.disk.now) (D.lends space.new.disk.now) }
+            ensures lends { LendsAtMost (length run.entry.states.items) (D.lends space.old.disk.now)
+                (D.lends space.new.disk.now) }
         { run_parallel(rt, gate, run, alloc, space, first) },
     };
     run_by_engine(run, alloc, space, &engine)
@@ -253,8 +256,8 @@ pub fn run_threads<X: Threads + Sync, D: StaleDisk, G: Gate + Sync>(
     ensures same_disk { space.new.disk.ghost_name ≡ space.old.disk.ghost_name }
     ensures counts { IfOk result (λ done. CountsFaults done.0 (D.faults space.old.disk.now)
         (D.faults space.new.disk.now) (D.read_faults space.old.disk.now) (D.read_faults space.new.disk.now)) }
-    ensures lends { IfOk result (λ done. CountsLends 8 trace.now done.0 (D.lends space.old.disk.now)
-        (D.lends space.new.disk.now)) }
+    ensures lends { IfOk result (λ done. CountsLends (length trace.now.programs) trace.now done.0
+        (D.lends space.old.disk.now) (D.lends space.new.disk.now)) }
     ensures wrote { IfOk result (λ done. CountsWrites config done.0.halt done.0.journal (D.writes space.old.disk.now)
         (D.writes space.new.disk.now)) }
     ensures log { IfOk result (λ done. done.0.log ≡ []) }

@@ -1,6 +1,6 @@
 -- How often readers are lent, beside the collections that are made.
 use Rattle.std.proofs.Common.{◌≡◌, ℕ, ◌+◌, ◌*◌, ◌≤◌, zero, suc, List, [], ◌∷◌, length, ◌∙◌}
-use Rattle.std.proofs.Common.{ap, arith, inl, inr, length-append}
+use Rattle.std.proofs.Common.{ap, arith, inl, inr, length-append, subst, sym}
 use Rattle.melt_model.specs.declared.config.Config.{Config}
 use Rattle.melt_model.specs.declared.reports.Journal.{Journal}
 use Rattle.melt_model.specs.declared.reports.Phase.{Phase}
@@ -11,6 +11,8 @@ use Rattle.melt_safepoint.specs.Threads.{AllEnded, SomeGoesOn}
 use Rattle.melt_safepoint.specs.Journals.{OneMore, Planned}
 use Rattle.melt_safepoint.specs.Run.{CountsLends, HasNoOperations, HasRisen}
 use Rattle.melt_safepoint.specs.Lends.{LendsAtMost, LendsFew, LendsTwice}
+use Rattle.melt_safepoint.specs.Rows.{KeepsRun, Row, SomeStands}
+use Rattle.melt_safepoint.specs.Shown.{Shown}
 
 -- one collection more is one entry more
 pub one_longer : {phase : Phase} {js later : List Journal} → OneMore phase js later → length later ≡ length js + 1
@@ -43,6 +45,26 @@ readers_none k = grind arith
 
 readers_one : (k : ℕ) → k * 1 ≡ k
 readers_one k = grind arith
+
+-- as many threads have as many readers at most
+pub most_by : (readers : ℕ → ℕ) {m n a b : ℕ} → m ≡ n → LendsAtMost (readers m) a b → LendsAtMost (readers n) a b
+most_by readers {m} {n} {a} {b} same lends = subst (λ (k : ℕ). LendsAtMost (readers k) a b) same lends
+
+pub few_by : (readers : ℕ → ℕ) {m n more a b : ℕ} {js later : List Journal} → m ≡ n
+    → LendsFew (readers m) more a b js later → LendsFew (readers n) more a b js later
+few_by readers {m} {n} {more} {a} {b} {js} {later} same lends =
+    subst (λ (k : ℕ). LendsFew (readers k) more a b js later) same lends
+
+pub twice_by : (readers : ℕ → ℕ) {m n more a b : ℕ} {js later : List Journal} → m ≡ n
+    → LendsTwice (readers m) more a b js later → LendsTwice (readers n) more a b js later
+twice_by readers {m} {n} {more} {a} {b} {js} {later} same lends =
+    subst (λ (k : ℕ). LendsTwice (readers k) more a b js later) same lends
+
+-- and a run that goes on has as many threads as before
+pub as_many : (shown later : Shown) (old new : Row) → SomeStands shown old → KeepsRun shown later old new
+    → length new.states ≡ length old.states
+as_many shown later old new was keeps =
+    (keeps was.0 was.1 was.2 was.3).table.count ∙ sym was.3.table.count
 
 -- one epoch was begun, and no collection made
 pub lends_one : (k a b : ℕ) (js later : List Journal) → LendsAtMost k a b → later ≡ js → LendsFew k 1 a b js later

@@ -1,5 +1,5 @@
 -- How often readers were lent to a run that was stopped.
-use Rattle.std.proofs.Common.{◌≡◌, ℕ, ◌+◌, ◌≤◌, List, length, ap, arith}
+use Rattle.std.proofs.Common.{◌≡◌, ℕ, ◌+◌, ◌≤◌, List, length, ap, arith, subst}
 use Rattle.melt_model.specs.declared.reports.Journal.{Journal}
 use Rattle.melt_safepoint.specs.Lends.{LendsAtMost, LendsFew, LendsTwice}
 use Rattle.melt_safepoint.specs.Rows.{StopKeeps, StopLends, StopTwice}
@@ -7,6 +7,16 @@ use Rattle.melt_safepoint.specs.declared.ending.Stop.{Stop}
 use Rattle.melt_safepoint.specs.declared.ending.Stop.TheVariants.{NoMemory, Halted}
 use Rattle.melt_safepoint.proofs.Lends.{lends_after, lends_more, lends_one, lends_since, lends_then}
 use Rattle.melt_safepoint.proofs.Lends.{lends_twice, twice_first, twice_none, twice_then}
+
+-- as many threads have as many readers at most
+pub stop_by : (readers : ℕ → ℕ) {m n : ℕ} (more a b : ℕ) (js : List Journal) (stop : Stop) → m ≡ n
+    → StopLends (readers m) more a b js stop → StopLends (readers n) more a b js stop
+stop_by readers more a b js stop same lends = subst (λ (k : ℕ). StopLends (readers k) more a b js stop) same lends
+
+pub twice_stop_by : (readers : ℕ → ℕ) {m n : ℕ} (more a b : ℕ) (js : List Journal) (stop : Stop) → m ≡ n
+    → StopTwice (readers m) more a b js stop → StopTwice (readers n) more a b js stop
+twice_stop_by readers more a b js stop same lends =
+    subst (λ (k : ℕ). StopTwice (readers k) more a b js stop) same lends
 
 -- in an epoch, which makes no collection
 pub stop_one : (k a b : ℕ) (js : List Journal) (stop : Stop) → LendsAtMost k a b → StopKeeps js stop

@@ -1,5 +1,5 @@
 -- What runs the epochs of a run, and what is asked of it.
-use Rattle.std.specs.Prelude.{◌≡◌, ℕ, ◌≤◌, Bool, List, Option, Result, Err, IfOk, IfErr, OnOk, OnErr}
+use Rattle.std.specs.Prelude.{◌≡◌, ℕ, ◌≤◌, Bool, List, length, Option, Result, Err, IfOk, IfErr, OnOk, OnErr}
 use Rattle.std.specs.declared.alloc.Global.{Global}
 use denote.Ref.{MutBor}
 use denote.Param.Members.{Shared}
@@ -81,9 +81,9 @@ module _ {C F E S : Type 0}
         → epoch.post by.run_epoch (run, (alloc, (space, (first, tt)))) (result, (later, tt))
         → RunsSo view stored sees run space.now later.now first result
 
-  -- it lends so many readers at most for an epoch
-  pub record LendsEach (n : ℕ) : Type 0 where
+  -- it lends so many readers at most for an epoch of so many threads
+  pub record LendsEach (readers : ℕ → ℕ) : Type 0 where
     pub each : (run : Run E) (alloc : Global) (space later : MutBor S) (first : Option ℕ)
         (result : Result (Run E × Option ℕ) Stop)
         → epoch.post by.run_epoch (run, (alloc, (space, (first, tt)))) (result, (later, tt))
-        → LendsAtMost n (sees.lends space.now) (sees.lends later.now)
+        → LendsAtMost (readers (length run.states.items)) (sees.lends space.now) (sees.lends later.now)

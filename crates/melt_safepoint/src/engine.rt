@@ -130,8 +130,8 @@ impl<C, F> Engine<C, F> {
         ensures count { S.sees.faults space.old ≤ S.sees.faults space.new }
         ensures lost { IfOk result (λ done. CountsLosses run.entry.states.items done.0.states.items
             (S.sees.read_faults space.old) (S.sees.read_faults space.new)) }
-        ensures lends { (n : ℕ) → LendsEach C.Fn F.Fn E.view E.stored S.sees self.now n
-            → LendsAtMost n (S.sees.lends space.old) (S.sees.lends space.new) }
+        ensures lends { (readers : ℕ → ℕ) → LendsEach C.Fn F.Fn E.view E.stored S.sees self.now readers
+            → LendsAtMost (readers (length run.entry.states.items)) (S.sees.lends space.old) (S.sees.lends space.new) }
         ensures stopped { IfErr result (StopsBut (S.sees.shown space.old) (S.sees.shown space.new)
             (row_of E.view run.entry)) }
         ensures stop_counts { IfErr result (λ stop. StopCounts stop run.entry.states.items (S.sees.faults space.old)

@@ -119,8 +119,8 @@ impl<'a, E: Machine> Run<'a, E> {
         ensures count { S.sees.faults space.old ≤ S.sees.faults space.new }
         ensures lost { IfOk result (λ run. CountsLosses self.entry.states.items run.states.items
             (S.sees.read_faults space.old) (S.sees.read_faults space.new)) }
-        ensures lends { (n : ℕ) → LendsEach C.Fn F.Fn E.view E.stored S.sees engine.now n
-            → LendsAtMost n (S.sees.lends space.old) (S.sees.lends space.new) }
+        ensures lends { (readers : ℕ → ℕ) → LendsEach C.Fn F.Fn E.view E.stored S.sees engine.now readers
+            → LendsAtMost (readers (length self.entry.states.items)) (S.sees.lends space.old) (S.sees.lends space.new) }
         ensures idle { AllEnded self.entry.states.items → S.sees.lends space.new ≡ S.sees.lends space.old }
         ensures stopped { IfErr result (StopsRun (S.sees.shown space.old) (S.sees.shown space.new)
             (row_of E.view self.entry)) }
@@ -167,8 +167,10 @@ impl<'a, E: Machine> Run<'a, E> {
             (S.sees.read_faults space.old) (S.sees.read_faults space.new)) }
         ensures same_disk { S.sees.name space.new ≡ S.sees.name space.old }
         ensures count { S.sees.faults space.old ≤ S.sees.faults space.new }
-        ensures lends { IfOk result (λ ended. (n : ℕ) → LendsEach C.Fn F.Fn E.view E.stored S.sees engine.now n
-            → LendsTwice n 1 (S.sees.lends space.old) (S.sees.lends space.new) (journal_of (row_of E.view self.entry))
+        ensures lends { IfOk result (λ ended. (readers : ℕ → ℕ)
+            → LendsEach C.Fn F.Fn E.view E.stored S.sees engine.now readers
+            → LendsTwice (readers (length self.entry.states.items)) 1
+            (S.sees.lends space.old) (S.sees.lends space.new) (journal_of (row_of E.view self.entry))
             ended.journal.items) }
         ensures idle { AllEnded self.entry.states.items → S.sees.lends space.new ≡ S.sees.lends space.old }
         ensures stopped { IfErr result (StopsRun (S.sees.shown space.old) (S.sees.shown space.new)
@@ -177,8 +179,10 @@ impl<'a, E: Machine> Run<'a, E> {
             (S.sees.faults space.old) (S.sees.faults space.new) (S.sees.read_faults space.old)
             (S.sees.read_faults space.new)) }
         ensures stores { IfErr result (StopStores E.stored) }
-        ensures stop_lends { IfErr result (λ stop. (n : ℕ) → LendsEach C.Fn F.Fn E.view E.stored S.sees engine.now n
-            → StopTwice n 1 (S.sees.lends space.old) (S.sees.lends space.new) (journal_of (row_of E.view self.entry))
+        ensures stop_lends { IfErr result (λ stop. (readers : ℕ → ℕ)
+            → LendsEach C.Fn F.Fn E.view E.stored S.sees engine.now readers
+            → StopTwice (readers (length self.entry.states.items)) 1
+            (S.sees.lends space.old) (S.sees.lends space.new) (journal_of (row_of E.view self.entry))
             stop) }
         ensures wrote { IfOk result (λ ended. WroteSince (journal_of (row_of E.view self.entry))
             ended.journal.items (S.sees.writes space.old) (S.sees.writes space.new)) }

@@ -198,8 +198,9 @@ impl<'a, E: Machine> Run<'a, E> {
             (S.sees.read_faults space.new)) }
         ensures stores { IfErr result (StopStores E.stored) }
         ensures lends { S.sees.lends space.new ≡ S.sees.lends space.old }
-        ensures stop_lends { IfErr result (λ stop. (n : ℕ) → LendsEach C.Fn F.Fn E.view E.stored S.sees engine.now n
-            → StopTwice n 0 (S.sees.lends space.old)
+        ensures stop_lends { IfErr result (λ stop. (readers : ℕ → ℕ)
+            → LendsEach C.Fn F.Fn E.view E.stored S.sees engine.now readers
+            → StopTwice (readers (length self.entry.states.items)) 0 (S.sees.lends space.old)
             (S.sees.lends space.new) (journal_of (row_of E.view self.entry)) stop) }
         ensures wrote { IfOk result (λ run. WroteSince (journal_of (row_of E.view self.entry))
             (journal_of (row_of E.view run)) (S.sees.writes space.old) (S.sees.writes space.new)) }
@@ -284,8 +285,9 @@ impl<'a, E: Machine> Run<'a, E> {
         ensures rests { IfOk result (λ run. RestsWell run.states.items) }
         ensures lost { IfOk result (λ run. CountsLosses self.entry.states.items run.states.items
             (S.sees.read_faults space.old) (S.sees.read_faults space.new)) }
-        ensures lends { IfOk result (λ run. (n : ℕ) → LendsEach C.Fn F.Fn E.view E.stored S.sees engine.now n
-            → LendsFew n 1 (S.sees.lends space.old)
+        ensures lends { IfOk result (λ run. (readers : ℕ → ℕ)
+            → LendsEach C.Fn F.Fn E.view E.stored S.sees engine.now readers
+            → LendsFew (readers (length self.entry.states.items)) 1 (S.sees.lends space.old)
             (S.sees.lends space.new) (journal_of (row_of E.view self.entry)) (journal_of (row_of E.view run))) }
         ensures same_disk { S.sees.name space.new ≡ S.sees.name space.old }
         ensures count { S.sees.faults space.old ≤ S.sees.faults space.new }
@@ -296,8 +298,9 @@ impl<'a, E: Machine> Run<'a, E> {
             (S.sees.faults space.old) (S.sees.faults space.new) (S.sees.read_faults space.old)
             (S.sees.read_faults space.new)) }
         ensures stores { IfErr result (StopStores E.stored) }
-        ensures stop_lends { IfErr result (λ stop. (n : ℕ) → LendsEach C.Fn F.Fn E.view E.stored S.sees engine.now n
-            → StopLends n 1 (S.sees.lends space.old)
+        ensures stop_lends { IfErr result (λ stop. (readers : ℕ → ℕ)
+            → LendsEach C.Fn F.Fn E.view E.stored S.sees engine.now readers
+            → StopLends (readers (length self.entry.states.items)) 1 (S.sees.lends space.old)
             (S.sees.lends space.new) (journal_of (row_of E.view self.entry)) stop) }
         ensures wrote { IfOk result (λ run. WroteSince (journal_of (row_of E.view self.entry))
             (journal_of (row_of E.view run)) (S.sees.writes space.old) (S.sees.writes space.new)) }
@@ -350,8 +353,9 @@ impl<'a, E: Machine> Run<'a, E> {
         ensures rests { IfOk result (λ run. RestsWell run.states.items) }
         ensures lost { IfOk result (λ run. CountsLosses self.entry.states.items run.states.items
             (S.sees.read_faults space.old) (S.sees.read_faults space.new)) }
-        ensures lends { IfOk result (λ run. (n : ℕ) → LendsEach C.Fn F.Fn E.view E.stored S.sees engine.now n
-            → LendsFew n 2 (S.sees.lends space.old)
+        ensures lends { IfOk result (λ run. (readers : ℕ → ℕ)
+            → LendsEach C.Fn F.Fn E.view E.stored S.sees engine.now readers
+            → LendsFew (readers (length self.entry.states.items)) 2 (S.sees.lends space.old)
             (S.sees.lends space.new) (journal_of (row_of E.view self.entry)) (journal_of (row_of E.view run))) }
         ensures same_disk { S.sees.name space.new ≡ S.sees.name space.old }
         ensures count { S.sees.faults space.old ≤ S.sees.faults space.new }
@@ -362,8 +366,9 @@ impl<'a, E: Machine> Run<'a, E> {
             (S.sees.faults space.old) (S.sees.faults space.new) (S.sees.read_faults space.old)
             (S.sees.read_faults space.new)) }
         ensures stores { IfErr result (StopStores E.stored) }
-        ensures stop_lends { IfErr result (λ stop. (n : ℕ) → LendsEach C.Fn F.Fn E.view E.stored S.sees engine.now n
-            → StopLends n 2 (S.sees.lends space.old)
+        ensures stop_lends { IfErr result (λ stop. (readers : ℕ → ℕ)
+            → LendsEach C.Fn F.Fn E.view E.stored S.sees engine.now readers
+            → StopLends (readers (length self.entry.states.items)) 2 (S.sees.lends space.old)
             (S.sees.lends space.new) (journal_of (row_of E.view self.entry)) stop) }
         ensures wrote { IfOk result (λ run. WroteSince (journal_of (row_of E.view self.entry))
             (journal_of (row_of E.view run)) (S.sees.writes space.old) (S.sees.writes space.new)) }
@@ -406,8 +411,9 @@ impl<'a, E: Machine> Run<'a, E> {
         ensures rests { IfOk result (λ run. RestsWell run.states.items) }
         ensures lost { IfOk result (λ run. CountsLosses self.entry.states.items run.states.items
             (S.sees.read_faults space.old) (S.sees.read_faults space.new)) }
-        ensures lends { IfOk result (λ run. (n : ℕ) → LendsEach C.Fn F.Fn E.view E.stored S.sees engine.now n
-            → LendsTwice n 0 (S.sees.lends space.old)
+        ensures lends { IfOk result (λ run. (readers : ℕ → ℕ)
+            → LendsEach C.Fn F.Fn E.view E.stored S.sees engine.now readers
+            → LendsTwice (readers (length self.entry.states.items)) 0 (S.sees.lends space.old)
             (S.sees.lends space.new) (journal_of (row_of E.view self.entry)) (journal_of (row_of E.view run))) }
         ensures same_disk { S.sees.name space.new ≡ S.sees.name space.old }
         ensures count { S.sees.faults space.old ≤ S.sees.faults space.new }
@@ -417,8 +423,9 @@ impl<'a, E: Machine> Run<'a, E> {
             (S.sees.faults space.old) (S.sees.faults space.new) (S.sees.read_faults space.old)
             (S.sees.read_faults space.new)) }
         ensures stores { IfErr result (StopStores E.stored) }
-        ensures stop_lends { IfErr result (λ stop. (n : ℕ) → LendsEach C.Fn F.Fn E.view E.stored S.sees engine.now n
-            → StopTwice n 0 (S.sees.lends space.old)
+        ensures stop_lends { IfErr result (λ stop. (readers : ℕ → ℕ)
+            → LendsEach C.Fn F.Fn E.view E.stored S.sees engine.now readers
+            → StopTwice (readers (length self.entry.states.items)) 0 (S.sees.lends space.old)
             (S.sees.lends space.new) (journal_of (row_of E.view self.entry)) stop) }
         ensures wrote { IfOk result (λ run. WroteSince (journal_of (row_of E.view self.entry))
             (journal_of (row_of E.view run)) (S.sees.writes space.old) (S.sees.writes space.new)) }

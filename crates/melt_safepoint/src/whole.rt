@@ -2,7 +2,7 @@
 //!
 //! Whoever gives out the events of a run makes an engine for it. From there on all runs are the same: epochs and
 //! safepoints take turns until no thread goes on, and what is left then is reported.
-ghost use Rattle.std.specs.Prelude.{◌≡◌, ℕ, Bool, IfOk};
+ghost use Rattle.std.specs.Prelude.{◌≡◌, ℕ, Bool, length, IfOk};
 ghost use Rattle.melt_model.specs.declared.config.Config.{Config};
 ghost use Rattle.melt_trace.specs.Script.{Script};
 ghost use Rattle.melt_safepoint.specs.Begun.{IsBegun};
@@ -39,9 +39,11 @@ where
     ensures same_disk { S.sees.name space.new ≡ S.sees.name space.old }
     ensures counts { IfOk result (λ done. CountsFaults done.0 (S.sees.faults space.old) (S.sees.faults space.new)
         (S.sees.read_faults space.old) (S.sees.read_faults space.new)) }
-    ensures lends { IfOk result (λ done. (n : ℕ) → LendsEach C.Fn F.Fn E.view E.stored S.sees engine.now n
+    ensures lends { IfOk result (λ done. (readers : ℕ → ℕ)
+        → LendsEach C.Fn F.Fn E.view E.stored S.sees engine.now readers
         → (script : Script) → (HasNoOperations script → AllEnded run.entry.states.items)
-        → CountsLends n script done.0 (S.sees.lends space.old) (S.sees.lends space.new)) }
+        → CountsLends (readers (length run.entry.states.items)) script done.0
+        (S.sees.lends space.old) (S.sees.lends space.new)) }
     ensures wrote { IfOk result (λ done. (told : Bool) (script : Script) (config : Config)
         → RunStands told script config (S.sees.shown space.old) (row_of E.view run.entry)
         → CountsWrites config done.0.halt done.0.journal (S.sees.writes space.old) (S.sees.writes space.new)) }

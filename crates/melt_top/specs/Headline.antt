@@ -128,10 +128,10 @@ abbrev pub stored_by : Way → Texts → List Entry → List Entry
 stored_by way.Written texts h = if texts.log then h else []
 stored_by way.Running texts h = []
 
--- how many readers an epoch lends at most: one by the written order, and else one for each of eight threads
-abbrev pub readers_of : Way → ℕ
-readers_of way.Written = 1
-readers_of way.Running = 8
+-- how many readers an epoch of a script lends at most: one by the written order, and else one for each thread
+abbrev pub readers_of : Way → Script → ℕ
+readers_of way.Written script = 1
+readers_of way.Running script = length script.programs
 
 -- The output is the text of a report of a run of the script. Where the disk tells its words, the replies are those of
 -- one legal history, which is a value of the report: where the run is by the written order and that is asked, its log
@@ -149,7 +149,7 @@ pub record RunDue (way : Way) (script : Script) (run : RunOptions) (disk : DiskC
   pub logged : report.log ≡ stored_by way run.texts report.history
   pub shows : shown.image ≡ disk.after
   pub counts : CountsFaults report disk.faults_before disk.faults_after disk.read_faults_before disk.read_faults_after
-  pub lends : CountsLends (readers_of way) script report disk.lends_before disk.lends_after
+  pub lends : CountsLends (readers_of way script) script report disk.lends_before disk.lends_after
   pub writes : CountsWrites run.config report.halt report.journal disk.writes_before disk.writes_after
   pub complete : ServedWell disk
       → (t : ℕ) (r : ThreadReport) → slice_get report.threads t ≡ Some r → IsServedEnd report.halt r.end

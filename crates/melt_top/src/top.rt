@@ -81,8 +81,8 @@ fn run_by<X: Threads + Sync, D: StaleDisk, G: Gate + Sync>(
     ensures same_disk { space.new.disk.ghost_name ≡ space.old.disk.ghost_name }
     ensures counts { IfOk result (λ done. CountsFaults done.0 (D.faults space.old.disk.now)
         (D.faults space.new.disk.now) (D.read_faults space.old.disk.now) (D.read_faults space.new.disk.now)) }
-    ensures lends { IfOk result (λ done. CountsLends (readers_of way) trace.now done.0 (D.lends space.old.disk.now)
-        (D.lends space.new.disk.now)) }
+    ensures lends { IfOk result (λ done. CountsLends (readers_of way trace.now) trace.now done.0
+        (D.lends space.old.disk.now) (D.lends space.new.disk.now)) }
     ensures writes { IfOk result (λ done. CountsWrites run.config done.0.halt done.0.journal
         (D.writes space.old.disk.now) (D.writes space.new.disk.now)) }
     ensures stored { IfOk result (λ done. done.0.log ≡ stored_by way run.texts done.0.history) }

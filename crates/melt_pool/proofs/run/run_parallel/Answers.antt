@@ -26,10 +26,6 @@ use Rattle.melt_pool.proofs.run.run_parallel.Given.{Over}
 use Rattle.melt_pool.proofs.run.run_parallel.Goals as goal
 use Rattle.melt_pool.proofs.run.run_parallel.Goals.{After-lend_all, In-Ok-go_through}
 
--- as many readers were lent as there are mutators, eight at most
-lends_eight : (n before after : ℕ) → n ≤ 8 → LendsAtMost n before after → LendsAtMost 8 before after
-lends_eight n before after most lends = record { few = omega (arith, most, lends.few); rises = lends.rises }
-
 pub returns-then-is_empty : goal.returns-then-is_empty
 returns-then-is_empty g c =
     let none : length c.args.run.states.items ≡ 0 =
@@ -64,13 +60,21 @@ lent_shown g c =
     shown_is (shown_by g.D.StaleDisk.image c.lend_all.new.space) (shown_by g.D.StaleDisk.image c.args.space.now)
     c.lend_all.ensures.end c.lend_all.ensures.limit c.lend_all.ensures.image
 
-lent : (g : Over) (c : After-lend_all g) → LendsAtMost 8 (g.D.StaleDisk.lends c.args.space.now.disk.now)
+-- there is one mutator for each thread
+as_many : (g : Over) (c : After-lend_all g) → length c.args.run.states.items ≡ length c.as_mut_slice-ms.result.now
+as_many g c =
+    let many : length c.args.run.states.items ≡ length c.args.run.machine.registers.items =
+    begins_many (shown_by g.D.StaleDisk.image c.args.space.now) c.args.first (row_of parallel_view c.args.run)
+    c.requires.may in
+    many ∙ (sym c.args.run.machine.away.count ∙ sym (ap length c.as_mut_slice-ms.ensures.value))
+
+-- and each was lent one reader
+lent : (g : Over) (c : After-lend_all g)
+    → LendsAtMost (length c.args.run.states.items) (g.D.StaleDisk.lends c.args.space.now.disk.now)
     (g.D.StaleDisk.lends c.lend_all.new.space.disk.now)
 lent g c =
-    lends_eight (length c.as_mut_slice-ms.result.now) _ _
-    (let many : length c.as_mut_slice-ms.result.now ≡ length c.args.run.machine.mutators.items =
-    ap length c.as_mut_slice-ms.ensures.value in
-    omega (arith, many, c.args.run.machine.away.few)) c.lend_all.ensures.lends
+    subst (λ (n : ℕ). LendsAtMost n (g.D.StaleDisk.lends c.args.space.now.disk.now)
+    (g.D.StaleDisk.lends c.lend_all.new.space.disk.now)) (sym (as_many g c)) c.lend_all.ensures.lends
 
 pub returns-in-Err-NoMemory-clause-lends : goal.returns-in-Err-NoMemory-clause-lends
 returns-in-Err-NoMemory-clause-lends g c =
@@ -112,12 +116,7 @@ returns-in-Err-Failed-clause-so g c =
 
 pub go_through-requires-clause-as_many : goal.go_through-requires-clause-as_many
 go_through-requires-clause-as_many g c κs within =
-    let many : length c.args.run.states.items ≡ length c.args.run.machine.registers.items =
-    begins_many (shown_by g.D.StaleDisk.image c.args.space.now) c.args.first (row_of parallel_view c.args.run)
-    c.requires.may in
-    let away : length c.args.run.machine.mutators.items ≡ length c.args.run.machine.registers.items =
-    c.args.run.machine.away.count in
-    many ∙ (sym away ∙ (sym (ap length c.as_mut_slice-ms.ensures.value) ∙ sym c.lend_all.auto.mutators))
+    as_many g (goal.at.go_through-requires-clause-as_many g c).After-lend_all ∙ sym c.lend_all.auto.mutators
 
 -- the run may go through an epoch still
 may_still : (g : Over) (c : After-lend_all g)
@@ -207,7 +206,13 @@ returns-clause-so g c =
       stores = tt;
     }
 
+pub returns-in_default-clause-lends : goal.returns-in_default-clause-lends
+returns-in_default-clause-lends g c =
+    subst (LendsAtMost (length c.args.run.states.items) (g.D.StaleDisk.lends c.args.space.now.disk.now))
+    (sym c.go_through.ensures.lends) (lent g (goal.at.returns-in_default-clause-lends g c).After-lend_all)
+
 pub returns-clause-lends : goal.returns-clause-lends
 returns-clause-lends g c =
-    subst (LendsAtMost 8 (g.D.StaleDisk.lends c.args.space.now.disk.now)) (sym c.go_through.ensures.lends)
+    subst (LendsAtMost (length c.args.run.states.items) (g.D.StaleDisk.lends c.args.space.now.disk.now))
+    (sym c.go_through.ensures.lends)
     (lent g (goal.at.returns-clause-lends g c).After-lend_all)

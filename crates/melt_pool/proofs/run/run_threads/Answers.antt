@@ -1,8 +1,9 @@
 -- The run stands before its first event, told where the disk tells its words.
-use Rattle.std.proofs.Common.{sym, ◌∙◌, subst}
+use Rattle.std.proofs.Common.{ℕ, sym, ◌∙◌, subst}
 use Rattle.std.proofs.lemmas.Result.{IfOk-weaker}
 use Rattle.std.specs.Prelude.{Bool, is_some}
 use Rattle.melt_safepoint.specs.Rows.{RunStands, row_of}
+use Rattle.melt_safepoint.specs.Run.{CountsLends}
 use Rattle.melt_safepoint.specs.Shown.{shown_by}
 use Rattle.melt_safepoint.proofs.Untold.{run_as_told}
 use Rattle.melt_pool.specs.Machines.{parallel_view}
@@ -39,8 +40,11 @@ returns-clause-has_run g c =
 
 pub returns-clause-lends : goal.returns-clause-lends
 returns-clause-lends g c =
-    IfOk-weaker c.run_epochs.result _ _ (λ done lends. lends c.args.trace.now c.in_ok-run.ensures.idle)
-    c.run_epochs.ensures.lends
+    let at = (goal.at.returns-clause-lends g c).In_ok-run in
+    IfOk-weaker c.run_epochs.result _ _
+    (λ done lends. subst (λ (threads : ℕ). CountsLends threads c.args.trace.now done.0
+    (g.D.StaleDisk.lends c.args.space.now.disk.now) (g.D.StaleDisk.lends c.run_epochs.new.space.disk.now))
+    (begun g at).table.count (lends c.args.trace.now c.in_ok-run.ensures.idle)) c.run_epochs.ensures.lends
 
 pub returns-clause-wrote : goal.returns-clause-wrote
 returns-clause-wrote g c =

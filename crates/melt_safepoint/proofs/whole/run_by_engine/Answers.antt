@@ -1,5 +1,5 @@
 -- What stands when the run is over is what all its threads left, or what it was stopped with.
-use Rattle.std.proofs.Common.{◌≡◌, ℕ, Some, None, refl, sym, ◌∙◌, ap, subst}
+use Rattle.std.proofs.Common.{◌≡◌, ℕ, Some, None, length, refl, sym, ◌∙◌, ap, subst}
 use Rattle.std.proofs.lemmas.Result.{IfOk-weaker}
 use Rattle.melt_model.specs.declared.reports.Halt.TheVariants as halt
 use Rattle.melt_safepoint.specs.Lends.{LendsTwice}
@@ -100,25 +100,27 @@ returns-clause-wrote g c =
     c.report.ensures.halt c.report.ensures.journal
 
 -- how often readers were lent
-lent : (g : Over) (c : Joined-run_all g) (n : ℕ)
-    → LendsEach g.C.Fn g.F.Fn g.E.Machine.view g.E.Machine.stored g.S.DiskSpace.sees c.args.engine.now n
-    → LendsTwice n 1 (g.S.DiskSpace.sees.lends c.args.space.now) (g.S.DiskSpace.sees.lends c.run_all.new.space)
+lent : (g : Over) (c : Joined-run_all g) (readers : ℕ → ℕ)
+    → LendsEach g.C.Fn g.F.Fn g.E.Machine.view g.E.Machine.stored g.S.DiskSpace.sees c.args.engine.now readers
+    → LendsTwice (readers (length c.args.run.states.items)) 1 (g.S.DiskSpace.sees.lends c.args.space.now)
+    (g.S.DiskSpace.sees.lends c.run_all.new.space)
     (journal_of (row_of g.E.Machine.view c.args.run)) c.match-run_all.ended.journal.items
-lent g c n each =
-    let Lends : Stop → Type 0 = StopTwice n 1 (g.S.DiskSpace.sees.lends c.args.space.now)
+lent g c readers each =
+    let Lends : Stop → Type 0 =
+    StopTwice (readers (length c.args.run.states.items)) 1 (g.S.DiskSpace.sees.lends c.args.space.now)
     (g.S.DiskSpace.sees.lends c.run_all.new.space) (journal_of (row_of g.E.Machine.view c.args.run)) in
     elim c.match-run_all.branch [
-      | in-Ok w ↦ subst (λ (e : Ended). Lends (Halted e)) (sym w.ended-is) (w.in-Ok.ensures.lends n each)
+      | in-Ok w ↦ subst (λ (e : Ended). Lends (Halted e)) (sym w.ended-is) (w.in-Ok.ensures.lends readers each)
       | in-Err-Halted w ↦ subst (λ (e : Ended). Lends (Halted e)) (sym w.ended-is)
-          (subst Lends w.in-Err-Halted.field-0-is (w.in-Err-Halted.ensures.stop_lends n each))
+          (subst Lends w.in-Err-Halted.field-0-is (w.in-Err-Halted.ensures.stop_lends readers each))
     ]
 
 pub returns-clause-lends : goal.returns-clause-lends
 returns-clause-lends g c =
     let at = (goal.at.returns-clause-lends g c).Joined-run_all in
     IfOk-weaker c.report.result _ _
-    (λ done journal n each script ends. counts_lends script done.0 c.requires.begins.none_made journal
-    (lent g at n each) (λ none. c.run_all.ensures.idle (ends none))) c.report.ensures.journal
+    (λ done journal readers each script ends. counts_lends script done.0 c.requires.begins.none_made journal
+    (lent g at readers each) (λ none. c.run_all.ensures.idle (ends none))) c.report.ensures.journal
 
 -- what was stored of the history
 stored : (g : Over) (c : Joined-run_all g)

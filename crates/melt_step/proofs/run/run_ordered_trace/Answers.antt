@@ -67,8 +67,8 @@ returns-clause-has_run g c =
 pub returns-clause-lends : goal.returns-clause-lends
 returns-clause-lends g c =
     IfOk-weaker c.run_by_engine.result _ _
-    (λ done lends. lends 1 (record { each = λ run alloc space later first result made. search rules }) c.args.trace.now
-    c.in_ok-run.ensures.idle) c.run_by_engine.ensures.lends
+    (λ done lends. lends (λ threads. 1) (record { each = λ run alloc space later first result made. search rules })
+    c.args.trace.now c.in_ok-run.ensures.idle) c.run_by_engine.ensures.lends
 
 pub returns-clause-wrote : goal.returns-clause-wrote
 returns-clause-wrote g c =

@@ -1,7 +1,7 @@
 -- The call is made first, or after forced Moves, or its thread ends.
 use Rattle.std.proofs.Common.{◌≡◌, refl, sym, ap, subst, arith, inl, inr}
 use Rattle.std.proofs.lemmas.Result.{err_from_is_err_and}
-use Rattle.std.specs.Prelude.{Bool, Some}
+use Rattle.std.specs.Prelude.{Bool, List, Some, length}
 use Rattle.melt_model.specs.declared.config.Config.{Config}
 use Rattle.melt_trace.specs.Script.{Script}
 use Rattle.melt_safepoint.specs.Epochs.{LacksFirst, RunsEpoch, to_do}
@@ -9,10 +9,11 @@ use Rattle.melt_safepoint.specs.Rows.{AwaitsCall, LacksWords, RunStands, journal
 use Rattle.melt_safepoint.specs.Shown.{Shown}
 use Rattle.melt_safepoint.specs.Writes.{WroteSince}
 use Rattle.melt_safepoint.specs.declared.collector.Collector.{Collector}
+use Rattle.melt_safepoint.specs.declared.thread.ThreadState.{ThreadState}
 use Rattle.melt_safepoint.proofs.Composing.{stop_counts_then}
-use Rattle.melt_safepoint.proofs.Lends.{lends_more, lends_one, lends_then}
+use Rattle.melt_safepoint.proofs.Lends.{few_by, lends_more, lends_one, lends_then}
 use Rattle.melt_safepoint.proofs.Losses.{counts_then}
-use Rattle.melt_safepoint.proofs.StopLends.{stop_more, stop_one, stop_then}
+use Rattle.melt_safepoint.proofs.StopLends.{stop_by, stop_more, stop_one, stop_then}
 use Rattle.melt_safepoint.proofs.TwoMoves.{if_err_from, if_ok_from, stops_first}
 use Rattle.melt_safepoint.proofs.Writes.{stop_wrote_none, stop_wrote_then, wrote_none, wrote_then}
 use Rattle.melt_safepoint.proofs.run.Run.make_room.Given.{Over}
@@ -142,9 +143,9 @@ returns-in-Some-clause-lost g c =
 pub returns-in-Some-clause-lends : goal.returns-in-Some-clause-lends
 returns-in-Some-clause-lends g c =
     let lack = lacked g (goal.at.returns-in-Some-clause-lends g c).In-Some in
-    if_ok_from c.move_for.result _ _ (λ run lends n by. lends_then
-    (lends_one _ _ _ _ _ (c.run_epoch.ensures.lends n by) (ap (λ (x : Collector). x.journal.items) lack.collector))
-    (lends n by))
+    if_ok_from c.move_for.result _ _ (λ run lends readers by. lends_then
+    (lends_one _ _ _ _ _ (c.run_epoch.ensures.lends readers by) (ap (λ (x : Collector). x.journal.items) lack.collector))
+    (few_by readers (ap (λ (states : List ThreadState). length states) lack.states) (lends readers by)))
     c.move_for.ensures.lends
 
 pub returns-in-Some-clause-wrote : goal.returns-in-Some-clause-wrote
@@ -172,7 +173,7 @@ returns-in-Some-clause-stop_counts g c =
 pub returns-in-Some-clause-stop_lends : goal.returns-in-Some-clause-stop_lends
 returns-in-Some-clause-stop_lends g c =
     let lack = lacked g (goal.at.returns-in-Some-clause-stop_lends g c).In-Some in
-    if_err_from c.move_for.result _ _ (λ stop lends n by. stop_then 1 _ _
-    (lends_one _ _ _ _ _ (c.run_epoch.ensures.lends n by) (ap (λ (x : Collector). x.journal.items) lack.collector))
-    (lends n by))
+    if_err_from c.move_for.result _ _ (λ stop lends readers by. stop_then 1 _ _
+    (lends_one _ _ _ _ _ (c.run_epoch.ensures.lends readers by) (ap (λ (x : Collector). x.journal.items) lack.collector))
+    (stop_by readers 1 _ _ _ _ (ap (λ (states : List ThreadState). length states) lack.states) (lends readers by)))
     c.move_for.ensures.stop_lends

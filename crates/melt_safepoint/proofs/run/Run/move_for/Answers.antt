@@ -1,7 +1,8 @@
 -- The call is made after one Move more, or again after another, or its thread ends.
 use Rattle.std.proofs.Common.{◌≡◌, ℕ, ◌+◌, ◌<◌, suc, refl, sym, ◌∙◌, ap, subst, arith, inl}
+use Rattle.std.proofs.Math.ListN.{length-set}
 use Rattle.std.proofs.lemmas.Result.{err_from_is_err_and}
-use Rattle.std.specs.Prelude.{Bool, Some, None, Option, length}
+use Rattle.std.specs.Prelude.{Bool, List, Some, None, Option, length}
 use Rattle.melt_model.specs.declared.config.Config.{Config}
 use Rattle.melt_trace.specs.Script.{Script}
 use Rattle.melt_core.proofs.Disks.{stands_untold}
@@ -16,12 +17,13 @@ use Rattle.melt_safepoint.specs.Rows.{AwaitsCall, LacksWords, RunStands, journal
 use Rattle.melt_safepoint.specs.Shown.{Shown}
 use Rattle.melt_safepoint.specs.Writes.{WroteSince}
 use Rattle.melt_safepoint.specs.declared.collector.Collector.{Collector}
+use Rattle.melt_safepoint.specs.declared.thread.ThreadState.{ThreadState}
 use Rattle.melt_safepoint.proofs.Collected.{journal_more, may_collect, moved_one}
 use Rattle.melt_safepoint.proofs.Composing.{stop_counts_then}
 use Rattle.melt_safepoint.proofs.Epochs.{goes_journal, goes_keeps, goes_less, goes_rests}
 use Rattle.melt_safepoint.proofs.Gone.{gone_less, gone_own, gone_settled}
 use Rattle.melt_safepoint.proofs.Lacking.{room_waits}
-use Rattle.melt_safepoint.proofs.Lends.{lends_more, lends_none, lends_one, lends_after, lends_then}
+use Rattle.melt_safepoint.proofs.Lends.{lends_more, lends_none, lends_one, lends_after, lends_then, most_by}
 use Rattle.melt_safepoint.proofs.Losses.{counts_same, counts_then}
 use Rattle.melt_safepoint.proofs.StopLends.{stop_after, stop_more, stop_one, stop_since, stop_then}
 use Rattle.melt_safepoint.proofs.TwoMoves.{awaits_again, forced_stops, if_err_from, if_ok_from, no_room_left}
@@ -125,14 +127,22 @@ returns-in_err-next-clause-stop_counts g c =
     (omega (arith, c.loop-forced.invariant.count, c.collect.ensures.count)) c.run_epoch.ensures.count (move_lost g at)
     c.in_err-next.ensures.stop_counts)
 
+-- a Move leaves as many threads
+moved_many : (g : Over) (c : In_ok-moved g)
+    → length c.in_ok-moved.moved.states.items ≡ length c.args.self.states.items
+moved_many g c =
+    ap (λ (states : List ThreadState). length states) (c.in_ok-moved.ensures.made.states ∙ c.loop-forced.invariant.states)
+
 pub returns-in_err-next-clause-stop_lends : goal.returns-in_err-next-clause-stop_lends
 returns-in_err-next-clause-stop_lends g c =
     let exit = err_from_is_err_and c.from_residual-in_err-next.result c.from_residual-in_err-next.ensures.1 in
-    rw (exit.1, exit.2) (λ n by. stop_more _ 1 _ _ _ _ (omega arith)
-    (stop_then 0 _ _ (c.loop-forced.invariant.lends n by)
+    let many = moved_many g (goal.at.returns-in_err-next-clause-stop_lends g c).In_ok-moved in
+    rw (exit.1, exit.2) (λ readers by. stop_more _ 1 _ _ _ _ (omega arith)
+    (stop_then 0 _ _ (c.loop-forced.invariant.lends readers by)
     (stop_after _ 0 _ _ (journal_of (row_of g.E.Machine.view c.in_ok-moved.moved)) _ c.collect.ensures.lends
     (omega (arith, journal_more c.in_ok-moved.ensures.made))
-    (stop_one _ _ _ _ _ (c.run_epoch.ensures.lends n by) c.in_err-next.ensures.stop_keeps))))
+    (stop_one _ _ _ _ _ (most_by readers many (c.run_epoch.ensures.lends readers by))
+    c.in_err-next.ensures.stop_keeps))))
 
 -- what was written with the Move
 move_wrote : (g : Over) (c : In_ok-moved g)
@@ -168,14 +178,16 @@ once g c told script config lacks ends was = record {
 -- so many readers were lent for the Move and the epoch after it
 once_lends : (g : Over) (c : In_ok-next g)
     → journal_of (row_of g.E.Machine.view c.in_ok-next.next) ≡ journal_of (row_of g.E.Machine.view c.in_ok-moved.moved)
-    → (n : ℕ) → LendsEach g.C.Fn g.F.Fn g.E.Machine.view g.E.Machine.stored g.S.DiskSpace.sees c.args.engine.now n
-    → LendsFew n 0 (g.S.DiskSpace.sees.lends c.args.space.now) (g.S.DiskSpace.sees.lends c.run_epoch.new.space)
+    → (readers : ℕ → ℕ)
+    → LendsEach g.C.Fn g.F.Fn g.E.Machine.view g.E.Machine.stored g.S.DiskSpace.sees c.args.engine.now readers
+    → LendsFew (readers (length c.args.self.states.items)) 0 (g.S.DiskSpace.sees.lends c.args.space.now) (g.S.DiskSpace.sees.lends c.run_epoch.new.space)
     (journal_of (row_of g.E.Machine.view c.args.self)) (journal_of (row_of g.E.Machine.view c.in_ok-next.next))
-once_lends g c same n by =
+once_lends g c same readers by =
+    let many = moved_many g (goal.at.In_ok-next g c).In_ok-moved in
     let js = journal_of (row_of g.E.Machine.view c.in_ok-next.next) in
-    lends_then (c.loop-forced.invariant.lends n by)
+    lends_then (c.loop-forced.invariant.lends readers by)
     (lends_after 0 _ c.collect.ensures.lends (omega (arith, journal_more c.in_ok-moved.ensures.made))
-    (lends_one _ _ _ _ _ (c.run_epoch.ensures.lends n by) same))
+    (lends_one _ _ _ _ _ (most_by readers many (c.run_epoch.ensures.lends readers by)) same))
 
 -- the call was made after the Move
 made : (g : Over) (c : In-None g) → RunsEpoch (g.S.DiskSpace.sees.shown c.collect.new.space) (Some c.args.thread)
@@ -203,8 +215,8 @@ returns-in-None-clause-makes g c told script config lacks =
 pub returns-in-None-clause-lends : goal.returns-in-None-clause-lends
 returns-in-None-clause-lends g c =
     let at = goal.at.returns-in-None-clause-lends g c in
-    λ n by. lends_more 1 (omega arith)
-    (once_lends g at.In_ok-next (ap (λ (x : Collector). x.journal.items) (made g at.In-None).collector) n by)
+    λ readers by. lends_more 1 (omega arith)
+    (once_lends g at.In_ok-next (ap (λ (x : Collector). x.journal.items) (made g at.In-None).collector) readers by)
 
 -- an epoch in which no collection was made wrote nothing
 once_wrote : (g : Over) (c : In_ok-next g)
@@ -363,10 +375,20 @@ returns-clause-stop_wrote g c =
     (g.S.DiskSpace.sees.writes c.loop-forced.space) _ (gone_journal g at) refl))
     (stop_wrote_none _ _ _ stop keeps c.next_epoch.ensures.writes)) c.next_epoch.ensures.stop_keeps
 
+-- the end of a thread leaves as many threads
+gone_many : (g : Over) (c : After-out_of_heap g)
+    → length c.out_of_heap.result.states.items ≡ length c.args.self.states.items
+gone_many g c =
+    ap (λ (states : List ThreadState). length states) c.out_of_heap.ensures.gone.states
+    ∙ length-set c.loop-forced.run.states.items c.args.thread _
+    ∙ ap (λ (states : List ThreadState). length states) c.loop-forced.invariant.states
+
 pub returns-clause-lends : goal.returns-clause-lends
 returns-clause-lends g c =
-    if_ok_from c.next_epoch.result _ _ (λ run goes n by.
-    lends_then (c.loop-forced.invariant.lends n by) (lends_one _ _ _ _ _ (c.next_epoch.ensures.lends n by)
+    let many = gone_many g (goal.at.returns-clause-lends g c).After-out_of_heap in
+    if_ok_from c.next_epoch.result _ _ (λ run goes readers by.
+    lends_then (c.loop-forced.invariant.lends readers by)
+    (lends_one _ _ _ _ _ (most_by readers many (c.next_epoch.ensures.lends readers by))
     (goes_journal _ (row_of g.E.Machine.view c.out_of_heap.result) (row_of g.E.Machine.view run) goes
     ∙ ap (λ (x : Collector). x.journal.items) c.out_of_heap.ensures.gone.collector))) c.next_epoch.ensures.goes
 
@@ -387,9 +409,11 @@ returns-clause-stop_counts g c =
 
 pub returns-clause-stop_lends : goal.returns-clause-stop_lends
 returns-clause-stop_lends g c =
-    if_err_from c.next_epoch.result _ _ (λ stop keeps n by.
-    stop_then 1 _ stop (c.loop-forced.invariant.lends n by)
+    let many = gone_many g (goal.at.returns-clause-stop_lends g c).After-out_of_heap in
+    if_err_from c.next_epoch.result _ _ (λ stop keeps readers by.
+    stop_then 1 _ stop (c.loop-forced.invariant.lends readers by)
     (stop_since _ 1 _ (journal_of (row_of g.E.Machine.view c.loop-forced.run))
     (journal_of (row_of g.E.Machine.view c.out_of_heap.result)) stop refl
     (omega (arith, ap (λ (x : Collector). length x.journal.items) c.out_of_heap.ensures.gone.collector))
-    (stop_one _ _ _ _ stop (c.next_epoch.ensures.lends n by) keeps))) c.next_epoch.ensures.stop_keeps
+    (stop_one _ _ _ _ stop (most_by readers many (c.next_epoch.ensures.lends readers by)) keeps)))
+    c.next_epoch.ensures.stop_keeps

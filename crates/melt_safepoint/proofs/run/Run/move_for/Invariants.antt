@@ -1,6 +1,6 @@
 -- The call lacked words still, after so many Moves that were forced in a row, and all threads are as they were.
 use Rattle.std.proofs.Common.{◌≡◌, ◌-◌, ◌≤◌, ℕ}
-use Rattle.std.specs.Prelude.{Bool}
+use Rattle.std.specs.Prelude.{Bool, length}
 use Rattle.melt_model.specs.declared.config.Config.{Config}
 use Rattle.melt_trace.specs.Script.{Script}
 use Rattle.melt_safepoint.specs.Engines.{LendsEach}
@@ -35,8 +35,9 @@ invariant-loop-forced g l = record {
       (g.S.DiskSpace.sees.read_faults l.space);
   wrote : WroteSince (journal_of (row_of g.E.Machine.view l.fn.self)) (journal_of (row_of g.E.Machine.view l.run))
       (g.S.DiskSpace.sees.writes l.fn.space) (g.S.DiskSpace.sees.writes l.space);
-  lends : (n : ℕ) → LendsEach g.C.Fn g.F.Fn g.E.Machine.view g.E.Machine.stored g.S.DiskSpace.sees l.fn.engine n
-      → LendsFew n 0 (g.S.DiskSpace.sees.lends l.fn.space) (g.S.DiskSpace.sees.lends l.space)
+  lends : (readers : ℕ → ℕ)
+      → LendsEach g.C.Fn g.F.Fn g.E.Machine.view g.E.Machine.stored g.S.DiskSpace.sees l.fn.engine readers
+      → LendsFew (readers (length l.fn.self.states.items)) 0 (g.S.DiskSpace.sees.lends l.fn.space) (g.S.DiskSpace.sees.lends l.space)
       (journal_of (row_of g.E.Machine.view l.fn.self)) (journal_of (row_of g.E.Machine.view l.run));
   count : g.S.DiskSpace.sees.faults l.fn.space ≤ g.S.DiskSpace.sees.faults l.space;
   same_disk : g.S.DiskSpace.sees.name l.space ≡ g.S.DiskSpace.sees.name l.fn.space;

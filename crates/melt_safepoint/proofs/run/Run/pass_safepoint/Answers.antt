@@ -19,11 +19,11 @@ use Rattle.melt_safepoint.proofs.Composing.{BeforeCall, awaits_call, before_made
 use Rattle.melt_safepoint.proofs.Composing.{begins_rest, stops_planned, stops_rest, stops_there}
 use Rattle.melt_safepoint.proofs.Epochs.{goes_journal, goes_keeps, goes_less, goes_rests, someone_waits}
 use Rattle.melt_safepoint.proofs.Lacking.{room_goes, room_waits}
-use Rattle.melt_safepoint.proofs.Lends.{lends_after, lends_one, lends_since, lends_twice, planned_longer}
+use Rattle.melt_safepoint.proofs.Lends.{few_by, lends_after, lends_one, lends_since, lends_twice, most_by, planned_longer}
 use Rattle.melt_safepoint.proofs.Losses.{CountsBefore, counts_made, counts_same, counts_then}
 use Rattle.melt_safepoint.proofs.OwnCollections.{own_due, own_less}
 use Rattle.melt_safepoint.proofs.Safepoints.{lowest_before, none_lacks, none_own, room_before}
-use Rattle.melt_safepoint.proofs.StopLends.{stop_more, stop_one, stop_twice, twice_stop_none}
+use Rattle.melt_safepoint.proofs.StopLends.{stop_by, stop_more, stop_one, stop_twice, twice_stop_none}
 use Rattle.melt_safepoint.proofs.ToDo.{collected_within}
 use Rattle.melt_safepoint.proofs.TwoMoves.{if_err_from, if_ok_from}
 use Rattle.melt_safepoint.proofs.Writes.{stop_wrote_none, stop_wrote_then, wrote_none, wrote_then}
@@ -159,13 +159,14 @@ own_more g c =
 pub returns-in_default-clause-lends : goal.returns-in_default-clause-lends
 returns-in_default-clause-lends g c =
     let at = (goal.at.returns-in_default-clause-lends g c).In_default in
-    if_ok_from c.next_epoch.result _ _ (λ run goes n by.
+    if_ok_from c.next_epoch.result _ _ (λ run goes readers by.
     let js = journal_of (row_of g.E.Machine.view run) in
     let same = goes_journal _ (row_of g.E.Machine.view c.in_ok-run.run') (row_of g.E.Machine.view run) goes in
     lends_twice _ _ _ (journal_of (row_of g.E.Machine.view c.args.self)) js
     (omega (arith, own_more g at, ap length same))
     (lends_since _ c.in_ok-run.ensures.lends (omega (arith, own_more g at))
-    (lends_one _ _ _ _ _ (c.next_epoch.ensures.lends n by) same))) c.next_epoch.ensures.goes
+    (lends_one _ _ _ _ _ (most_by readers c.in_ok-run.ensures.all.count (c.next_epoch.ensures.lends readers by)) same)))
+    c.next_epoch.ensures.goes
 
 pub returns-in_default-clause-stopped : goal.returns-in_default-clause-stopped
 returns-in_default-clause-stopped g c =
@@ -188,10 +189,12 @@ returns-in_default-clause-stop_wrote g c =
 pub returns-in_default-clause-stop_lends : goal.returns-in_default-clause-stop_lends
 returns-in_default-clause-stop_lends g c =
     let at = (goal.at.returns-in_default-clause-stop_lends g c).In_default in
-    if_err_from c.next_epoch.result _ _ (λ stop keeps n by.
+    if_err_from c.next_epoch.result _ _ (λ stop keeps readers by.
     stop_twice _ _ (journal_of (row_of g.E.Machine.view c.in_ok-run.run')) stop c.in_ok-run.ensures.lends
     (own_more g at) _ (stop_more _ 2 _ _ _ stop (omega arith)
-    (stop_one _ _ _ _ stop (c.next_epoch.ensures.lends n by) keeps))) c.next_epoch.ensures.stop_keeps
+    (stop_one _ _ _ _ stop
+    (most_by readers c.in_ok-run.ensures.all.count (c.next_epoch.ensures.lends readers by)) keeps)))
+    c.next_epoch.ensures.stop_keeps
 
 pub collect-requires : goal.collect-requires
 collect-requires g c κs = (
@@ -290,6 +293,12 @@ counts_before g c =
       | else-len-made w ↦ rw (w.space-is, w.run-is)
           (record { count = c.in_ok-run.ensures.count; lost = first })
     ]
+
+-- as many threads are there before that call
+before_many : (g : Over) (c : Joined-len-made g)
+    → length c.if-len-made.run.states.items ≡ length c.args.self.states.items
+before_many g c =
+    ap (λ (states : List ThreadState). length states) (before_call g c).states ∙ c.in_ok-run.ensures.all.count
 
 -- no reader was lent
 before_lends : (g : Over) (c : Joined-len-made g)
@@ -394,8 +403,8 @@ returns-clause-lost g c =
 pub returns-clause-lends : goal.returns-clause-lends
 returns-clause-lends g c =
     let at = (goal.at.returns-clause-lends g c).Joined-len-made in
-    if_ok_from c.make_room.result _ _ (λ run few n by.
-    let lends = few n by in
+    if_ok_from c.make_room.result _ _ (λ run few readers by.
+    let lends = few_by readers (before_many g at) (few readers by) in
     let js = journal_of (row_of g.E.Machine.view run) in
     lends_twice _ _ _ (journal_of (row_of g.E.Machine.view c.args.self)) js
     (omega (arith, before_longer g at, lends.grows))
@@ -437,6 +446,7 @@ returns-clause-stop_counts g c =
 pub returns-clause-stop_lends : goal.returns-clause-stop_lends
 returns-clause-stop_lends g c =
     let at = (goal.at.returns-clause-stop_lends g c).Joined-len-made in
-    if_err_from c.make_room.result _ _ (λ stop lends n by.
+    if_err_from c.make_room.result _ _ (λ stop lends readers by.
     stop_twice _ _ (journal_of (row_of g.E.Machine.view c.if-len-made.run)) stop (before_lends g at)
-    (before_longer g at) _ (lends n by)) c.make_room.ensures.stop_lends
+    (before_longer g at) _ (stop_by readers 2 _ _ _ stop (before_many g at) (lends readers by)))
+    c.make_room.ensures.stop_lends

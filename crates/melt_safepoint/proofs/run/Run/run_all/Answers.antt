@@ -5,9 +5,9 @@ use Rattle.melt_safepoint.specs.Rows.{Row, RunStands, row_of}
 use Rattle.melt_safepoint.specs.Shown.{Shown}
 use Rattle.melt_safepoint.proofs.Composing.{stop_counts_then, stops_then}
 use Rattle.melt_safepoint.proofs.Epochs.{goes_ended, goes_journal, goes_keeps, goes_rests}
-use Rattle.melt_safepoint.proofs.Lends.{all_not_some, twice_first, twice_then}
+use Rattle.melt_safepoint.proofs.Lends.{all_not_some, as_many, twice_by, twice_first, twice_then}
 use Rattle.melt_safepoint.proofs.Losses.{counts_then}
-use Rattle.melt_safepoint.proofs.StopLends.{twice_stop_first, twice_stop_then}
+use Rattle.melt_safepoint.proofs.StopLends.{twice_stop_by, twice_stop_first, twice_stop_then}
 use Rattle.melt_safepoint.proofs.Writes.{stop_wrote_none, stop_wrote_then, wrote_none, wrote_then}
 use Rattle.melt_safepoint.proofs.run.Run.run_all.Goals as goal
 
@@ -76,7 +76,11 @@ loop-alloc-preserved g c = record {
   lost = counts_then c.args.self.states.items c.loop-alloc.run.states.items c.in_ok-run-2.run'.states.items _ _ _
       c.loop-alloc.invariant.lost c.in_ok-run-2.ensures.lost;
   wrote = wrote_then c.loop-alloc.invariant.wrote c.in_ok-run-2.ensures.wrote;
-  lends = λ n by. twice_then (c.loop-alloc.invariant.lends n by) (c.in_ok-run-2.ensures.lends n by);
+  lends = λ readers by. twice_then (c.loop-alloc.invariant.lends readers by)
+      (twice_by readers
+      (as_many (g.S.DiskSpace.sees.shown c.args.space.now) _ (row_of g.E.Machine.view c.args.self)
+      (row_of g.E.Machine.view c.loop-alloc.run) c.requires.stands c.loop-alloc.invariant.keeps)
+      (c.in_ok-run-2.ensures.lends readers by));
   idle = λ all.
       absurd (all_not_some c.loop-alloc.run.states.items (c.has_ended.ensures.goes c.loop-alloc-test.true)
       (c.loop-alloc.invariant.idle all).0);
@@ -112,7 +116,11 @@ pub returns-in_err-run-2-clause-stop_lends : goal.returns-in_err-run-2-clause-st
 returns-in_err-run-2-clause-stop_lends g c =
     let exit = err_from_is_err_and c.from_residual-in_err-run-2.result c.from_residual-in_err-run-2.ensures.1 in
     rw (exit.1, exit.2)
-    (λ n by. twice_stop_then 0 _ _ (c.loop-alloc.invariant.lends n by) (c.in_err-run-2.ensures.stop_lends n by))
+    (λ readers by. twice_stop_then 0 _ _ (c.loop-alloc.invariant.lends readers by)
+    (twice_stop_by readers 0 _ _ _ _
+    (as_many (g.S.DiskSpace.sees.shown c.args.space.now) _ (row_of g.E.Machine.view c.args.self)
+    (row_of g.E.Machine.view c.loop-alloc.run) c.requires.stands c.loop-alloc.invariant.keeps)
+    (c.in_err-run-2.ensures.stop_lends readers by)))
 
 pub end-requires : goal.end-requires
 end-requires g c =

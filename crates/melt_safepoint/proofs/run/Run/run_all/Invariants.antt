@@ -1,5 +1,5 @@
 -- What stood at the start stands on after each epoch, and less is to do each time.
-use Rattle.std.proofs.Common.{◌≡◌, ◌≤◌, ℕ}
+use Rattle.std.proofs.Common.{◌≡◌, ◌≤◌, ℕ, length}
 use Rattle.melt_safepoint.specs.Engines.{LendsEach}
 use Rattle.melt_safepoint.specs.Epochs.{RestsWell, to_do}
 use Rattle.melt_safepoint.specs.Lends.{LendsTwice}
@@ -22,8 +22,9 @@ invariant-loop-alloc g l = record {
       (g.S.DiskSpace.sees.read_faults l.space);
   wrote : WroteSince (journal_of (row_of g.E.Machine.view l.fn.self)) (journal_of (row_of g.E.Machine.view l.run))
       (g.S.DiskSpace.sees.writes l.fn.space) (g.S.DiskSpace.sees.writes l.space);
-  lends : (n : ℕ) → LendsEach g.C.Fn g.F.Fn g.E.Machine.view g.E.Machine.stored g.S.DiskSpace.sees l.fn.engine n
-      → LendsTwice n 1 (g.S.DiskSpace.sees.lends l.fn.space) (g.S.DiskSpace.sees.lends l.space)
+  lends : (readers : ℕ → ℕ)
+      → LendsEach g.C.Fn g.F.Fn g.E.Machine.view g.E.Machine.stored g.S.DiskSpace.sees l.fn.engine readers
+      → LendsTwice (readers (length l.fn.self.states.items)) 1 (g.S.DiskSpace.sees.lends l.fn.space) (g.S.DiskSpace.sees.lends l.space)
       (journal_of (row_of g.E.Machine.view l.fn.self)) (journal_of (row_of g.E.Machine.view l.run));
   idle : AllEnded l.fn.self.states.items → AllEnded l.run.states.items
       × (g.S.DiskSpace.sees.lends l.space ≡ g.S.DiskSpace.sees.lends l.fn.space);
