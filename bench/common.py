@@ -1,6 +1,9 @@
-"""What bench/run, bench/collect, bench/disk, bench/gen, bench/flags, bench/start, bench/leak, bench/reload, bench/move,
-bench/epoch and bench/threads share: the programs, the plain ones, the largest traces, and how a process is measured."""
+"""What bench/run, bench/collect, bench/disk, bench/gen, bench/flags, bench/start, bench/beside, bench/leak, bench/reload,
+bench/move, bench/epoch and bench/threads share: the programs, the plain ones, the largest traces, and how a process is
+measured."""
 import bisect
+import importlib.machinery
+import importlib.util
 import os
 import pathlib
 import re
@@ -44,6 +47,14 @@ def command(program, name):
     if not os.access(path, os.X_OK):
         fail(f"{program} is not there: `rt run -- disk 16` in crates/melt_bench builds it")
     return [path, name]
+
+
+def script(name):
+    """The script of this folder with that name, as a module."""
+    loader = importlib.machinery.SourceFileLoader(name, str(HERE / name))
+    module = importlib.util.module_from_spec(importlib.util.spec_from_loader(name, loader))
+    loader.exec_module(module)
+    return module
 
 
 def compiled_file(path, folder):
