@@ -135,8 +135,9 @@ def test_heaps_signals(folder):
     waits = program_that("waits", f'if [[ $heap == 200 ]]; then echo $$ > {folder}/waits.pid; exec sleep 60; fi; exec "$MELT" "$@"')
     env = {**os.environ, "MELT_PROGRAM": str(waits), "TMPDIR": str(folder / "folders")}
     for number in (signal.SIGINT, signal.SIGTERM):
+        # (a shell that is no terminal's lets what it starts in the background ignore Ctrl-C, and so this test too)
         ran = subprocess.Popen([HEAPS, "--csv", "--from", "400", "--to", "200", path], stdout=subprocess.PIPE, stderr=subprocess.PIPE,
-                               text=True, env=env)
+                               text=True, env=env, preexec_fn=lambda: signal.signal(signal.SIGINT, signal.SIG_DFL))
         while not (os.path.exists("waits.pid") and pathlib.Path("waits.pid").read_text()):
             time.sleep(0.02)
         ran.send_signal(number)
