@@ -5,7 +5,7 @@ use Rattle.std.specs.List.{after_first, before_first}
 use Rattle.std.specs.Option.{option_map}
 use Rattle.std.specs.Str.{bytes_eq}
 use Rattle.melt_model.specs.declared.config.Config.{Config}
-use Rattle.melt_trace.specs.Language.{number_of}
+use Rattle.melt_text.specs.Numbers.{number_of}
 use Rattle.melt_bench.specs.Words.{within_word}
 use Rattle.melt_bench.specs.declared.run.asked.Asked.{Asked}
 

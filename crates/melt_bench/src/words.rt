@@ -1,10 +1,10 @@
 //! The numbers among the words after a command.
 ghost use Rattle.std.specs.Prelude.{◌≡◌, None, Some, IfOk, OnErr};
-ghost use Rattle.melt_trace.specs.Language.{number_of};
+ghost use Rattle.melt_text.specs.Numbers.{number_of};
 ghost use Rattle.melt_bench.specs.Words.{within_word};
 
 use anyhow::{Context, Result};
-use melt_trace::read_number;
+use melt_text::read_number;
 
 /// The number that a text spells, if it is small enough.
 pub fn number_in(text: &str) -> Option<u32>

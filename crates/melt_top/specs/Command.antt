@@ -6,7 +6,7 @@ use Rattle.std.specs.List.{list_any}
 use Rattle.std.specs.Str.{bytes_eq}
 use Rattle.melt_model.specs.Config.{InRanges}
 use Rattle.melt_model.specs.declared.config.Config.{Config}
-use Rattle.melt_trace.specs.Language.{number_of}
+use Rattle.melt_text.specs.Numbers.{number_of}
 use Rattle.melt_model.specs.declared.reports.ThreadEnd.{ThreadEnd}
 use Rattle.melt_model.specs.declared.reports.ThreadEnd.TheVariants as end
 use Rattle.melt_model.specs.declared.reports.Halt.{Halt}

@@ -3,7 +3,7 @@ use Rattle.std.specs.Prelude.{ℕ, ◌+◌, ◌%◌, ◌^◌, if◌then◌else�
 use Rattle.std.specs.Prelude.{Option, None, Some}
 use Rattle.std.specs.List.{flat_map, sum_by}
 use Rattle.std.specs.Fmt.{decimal}
-use Rattle.melt_trace.specs.Grammar.{line}
+use Rattle.melt_text.specs.Printed.{line}
 use Rattle.melt_model.specs.History.{made}
 use Rattle.melt_model.specs.declared.history.Act.{Act}
 use Rattle.melt_model.specs.declared.history.Act.TheVariants as act

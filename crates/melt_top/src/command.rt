@@ -2,7 +2,7 @@
 ghost use Rattle.std.specs.Prelude.{◌≡◌, ◌<◌, ◌≤◌, ◌⊎◌, drop, length};
 ghost use Rattle.std.specs.Prelude.{map, option_and_then, option_map, string_bytes, IfOk, IfSome};
 ghost use Rattle.melt_model.specs.Config.{InRanges};
-ghost use Rattle.melt_trace.specs.Language.{number_of};
+ghost use Rattle.melt_text.specs.Numbers.{number_of};
 ghost use Rattle.melt_top.specs.Command.{HasRanges, between, config_of, kind_named, meant, number_or, recipe_of};
 ghost use Rattle.melt_top.specs.Command.{plain_texts_of, run_of, texts_of, threads_run};
 ghost use Rattle.melt_top.specs.Words.{Given, given_of};
@@ -13,7 +13,7 @@ use crate::text::Texts;
 use clap::ArgMatches;
 use melt_gen::Workload;
 use melt_model::{Config, NoMemory};
-use melt_trace::read_number;
+use melt_text::read_number;
 use std::alloc::Global;
 
 /// The numbers of words that a heap may have.

@@ -10,7 +10,7 @@ ghost use Rattle.melt_top.specs.Text.{table_part, log_part, text};
 use itoa::Buffer;
 use melt_model::{Act, Entry, Halt, NoMemory, Reply, Report, Slot, ThreadEnd, ThreadReport, Value};
 use melt_stats::table;
-use melt_trace::push_line;
+use melt_text::push_line;
 use std::alloc::Global;
 use std::mem;
 

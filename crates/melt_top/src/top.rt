@@ -5,7 +5,7 @@ ghost use Rattle.melt_safepoint.specs.Run.{CountsFaults, CountsLends, HasRun};
 ghost use Rattle.melt_safepoint.specs.Shown.{shown_by};
 ghost use Rattle.melt_safepoint.specs.Writes.{CountsWrites};
 ghost use Rattle.melt_model.specs.Config.{InRanges};
-ghost use Rattle.melt_trace.specs.Grammar.{line};
+ghost use Rattle.melt_text.specs.Printed.{line};
 ghost use Rattle.melt_trace.specs.Refusal.{IsRefusedTrace};
 ghost use Rattle.melt_trace.specs.Language.{script_of};
 ghost use Rattle.melt_top.specs.Command.{HasRanges, meant};
@@ -24,7 +24,8 @@ use melt_model::{NoMemory, Report};
 use melt_pool::run_threads;
 use melt_scion::Heap;
 use melt_step::run_schedule;
-use melt_trace::{MAX_BYTES, ParseRefusal, Trace, TraceError, parse, print, push_line};
+use melt_text::push_line;
+use melt_trace::{MAX_BYTES, ParseRefusal, Trace, TraceError, parse, print};
 use std::alloc::Global;
 use std::thread::Threads;
 

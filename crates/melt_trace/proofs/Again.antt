@@ -10,9 +10,12 @@ use Rattle.std.proofs.lemmas.Bool.{lt-ltb, le-leb, leb-true, ne_eqb}
 use Rattle.std.proofs.lemmas.List.{append-nil, length_push, length-map}
 use Rattle.std.proofs.lemmas.List.Folds.{list_all-append}
 use Rattle.std.proofs.lemmas.Fmt.{decimal_by_steps}
-use Rattle.melt_trace.specs.Language.{Range, Place, checked, numbers_with, numbers_in, numbers, number_of, spelled_from}
-use Rattle.melt_trace.specs.Language.{if_word, is_empty, fields_of, is_printable, is_skipped, after_fields, after}
-use Rattle.melt_trace.proofs.Cuts.{filled}
+use Rattle.melt_text.specs.Numbers.{number_of, spelled_from}
+use Rattle.melt_trace.specs.Language.{Range, Place, checked, numbers_with, numbers_in, numbers}
+use Rattle.melt_text.specs.Lines.{is_empty, fields_of, is_printable}
+use Rattle.melt_text.specs.Numbers.{if_word}
+use Rattle.melt_trace.specs.Language.{is_skipped, after_fields, after}
+use Rattle.melt_text.proofs.Cuts.{filled}
 use Rattle.melt_trace.proofs.Kept.{AreWithin}
 
 -- ---- digits

@@ -18,13 +18,16 @@ use Rattle.melt_trace.specs.declared.language.Word.TheVariants as word
 use Rattle.melt_trace.specs.declared.language.Expected.{Expected}
 use Rattle.melt_trace.specs.declared.language.Expected.TheVariants as stage
 use Rattle.melt_trace.specs.Script.{Script, expand}
-use Rattle.melt_trace.specs.Grammar.{line, op_line, item_line, program_lines, canonical, InRange}
+use Rattle.melt_text.specs.Printed.{line}
+use Rattle.melt_trace.specs.Grammar.{op_line, item_line, program_lines, canonical, InRange}
 use Rattle.melt_trace.specs.Language.{max_bytes, Place, first_place, global, ranges_of, numbers, operation_count}
-use Rattle.melt_trace.specs.Language.{with_operation, with_program, fits, is_skipped, lines_of, without_empty_rest}
-use Rattle.melt_trace.specs.Language.{word_of, after_line, after_word, and_then, heading, in_heading, number_of}
+use Rattle.melt_text.specs.Lines.{lines_of, without_empty_rest}
+use Rattle.melt_trace.specs.Language.{with_operation, with_program, fits, is_skipped}
+use Rattle.melt_text.specs.Numbers.{number_of}
+use Rattle.melt_trace.specs.Language.{word_of, after_line, after_word, and_then, heading, in_heading}
 use Rattle.melt_trace.specs.Language.{after_operation}
 use Rattle.melt_trace.specs.Language.{after_fields, after, script_from, script_of, AreItems, IsOrder, IsScript}
-use Rattle.melt_trace.proofs.Cuts.{split_parts, line_before}
+use Rattle.melt_text.proofs.Cuts.{split_parts, line_before}
 use Rattle.melt_trace.proofs.Kept.{AreWithin, placed, same_Ok}
 use Rattle.melt_trace.proofs.Again.{is_plain, spaced, AreWords, split_line, line_taken, number_again, numbers_again}
 

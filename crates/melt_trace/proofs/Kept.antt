@@ -20,8 +20,10 @@ use Rattle.melt_trace.specs.Script.{Script}
 use Rattle.melt_trace.specs.Grammar.{InRange}
 use Rattle.melt_trace.specs.Language.{max_bytes, Range, Place, first_place, within, checked, numbers_with, numbers_in}
 use Rattle.melt_trace.specs.Language.{numbers}
-use Rattle.melt_trace.specs.Language.{number_of, global, ranges_of, operation_of, operation_count, with_operation}
-use Rattle.melt_trace.specs.Language.{with_program, fits, is_printable, is_skipped, fields_of, lines_of, word_of}
+use Rattle.melt_text.specs.Numbers.{number_of}
+use Rattle.melt_trace.specs.Language.{global, ranges_of, operation_of, operation_count, with_operation}
+use Rattle.melt_text.specs.Lines.{is_printable, fields_of, lines_of}
+use Rattle.melt_trace.specs.Language.{with_program, fits, is_skipped, word_of}
 use Rattle.melt_trace.specs.Language.{after_operation, after_repeat, after_end, after_done, after_thread, after_order}
 use Rattle.melt_trace.specs.Language.{after_line, and_then, after_word, in_heading, heading, after_fields, after}
 use Rattle.melt_trace.specs.Language.{script_at_end}

@@ -8,7 +8,8 @@ use Rattle.melt_trace.specs.declared.parser.draft.Block.{Block}
 use Rattle.melt_trace.specs.declared.parser.draft.Draft.{Draft}
 use Rattle.melt_trace.specs.Reasons.{number_of_reason}
 use Rattle.melt_trace.specs.Script.{levels}
-use Rattle.melt_trace.specs.Language.{Place, operation_count, first_place, lines_of, script_from}
+use Rattle.melt_text.specs.Lines.{lines_of}
+use Rattle.melt_trace.specs.Language.{Place, operation_count, first_place, script_from}
 
 -- ---- the place
 

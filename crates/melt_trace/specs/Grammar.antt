@@ -1,16 +1,12 @@
 -- The bytes of a trace.
 use Rattle.std.specs.Prelude.{ℕ, ◌+◌, ◌^◌, ◌<◌, ◌≤◌, List, [], ◌∷◌, ◌++◌, length, codes}
 use Rattle.std.specs.List.{flat_map}
-use Rattle.std.specs.Fmt.{decimal}
+use Rattle.melt_text.specs.Printed.{line}
 use Rattle.melt_model.specs.declared.operations.Op.{Op}
 use Rattle.melt_model.specs.declared.operations.Op.TheVariants as op
 use Rattle.melt_trace.specs.declared.script.Item.{Item}
 use Rattle.melt_trace.specs.declared.script.Item.TheVariants as item
 use Rattle.melt_trace.specs.Script.{Script}
-
--- a word, and numbers after it: one space before each, and a newline at the end
-abbrev pub line : List ℕ → List ℕ → List ℕ
-line word numbers = word ++ flat_map (λ n. 32 ∷ decimal n) numbers ++ 10 ∷ []
 
 abbrev pub op_line : Op → List ℕ
 op_line (op.New dst refs nums) = line (codes "new") (dst ∷ refs ∷ nums ∷ [])

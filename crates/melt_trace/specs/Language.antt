@@ -1,10 +1,9 @@
 -- The grammar of traces: which line may stand after which, and what the lines say together.
 use Rattle.std.specs.Prelude.{◌≡◌, ℕ, ◌<◌, ◌≤◌, ◌+◌, ◌^◌, ◌*◌, ◌-◌, Bool, true, false, not, ◌&&◌, ◌||◌, ◌==◌, nat_lt}
-use Rattle.std.specs.Prelude.{nat_le, if◌then◌else◌, zero, suc, List, [], ◌∷◌, ◌++◌, length, filter, sum_by, codes}
-use Rattle.std.specs.Prelude.{Option, None, Some, option_and_then, Result, Ok, Err}
-use Rattle.std.specs.List.{slice_split, list_all, AllByRecursion}
+use Rattle.std.specs.Prelude.{nat_le, if◌then◌else◌, zero, suc, List, [], ◌∷◌, ◌++◌, length, sum_by, codes}
+use Rattle.std.specs.Prelude.{Option, None, Some, Result, Ok, Err}
+use Rattle.std.specs.List.{list_all, AllByRecursion}
 use Rattle.std.specs.Str.{bytes_eq}
-use Rattle.std.specs.Char.{is_ascii_digit}
 use Rattle.melt_model.specs.declared.operations.Op.{Op}
 use Rattle.melt_model.specs.declared.operations.Op.TheVariants as op
 use Rattle.melt_trace.specs.declared.script.Item.{Item}
@@ -13,51 +12,18 @@ use Rattle.melt_trace.specs.declared.language.Word.{Word}
 use Rattle.melt_trace.specs.declared.language.Word.TheVariants as word
 use Rattle.melt_trace.specs.declared.language.Expected.{Expected}
 use Rattle.melt_trace.specs.declared.language.Expected.TheVariants as stage
+use Rattle.melt_text.specs.Lines.{lines_of, fields_of, is_printable}
+use Rattle.melt_text.specs.Numbers.{number_of}
 use Rattle.melt_trace.specs.Script.{Script, expand}
 use Rattle.melt_trace.specs.Grammar.{InRange}
 
--- 1. Lines and fields
-
--- A line ends with byte 10. A rest after the last one is a line too, unless it is empty.
-abbrev pub without_empty_rest : List (List ℕ) → List (List ℕ)
-without_empty_rest [] = []
-without_empty_rest ([] ∷ []) = []
-without_empty_rest ((b ∷ bytes) ∷ []) = (b ∷ bytes) ∷ []
-without_empty_rest (l ∷ next ∷ ls) = l ∷ without_empty_rest (next ∷ ls)
-
-abbrev pub lines_of : List ℕ → List (List ℕ)
-lines_of bytes = without_empty_rest (slice_split (λ b. b == 10) bytes)
-
-abbrev pub is_empty : List ℕ → Bool
-is_empty [] = true
-is_empty (b ∷ bytes) = false
-
--- the longest runs of bytes other than the space
-abbrev pub fields_of : List ℕ → List (List ℕ)
-fields_of bytes = filter (λ field. not (is_empty field)) (slice_split (λ b. b == 32) bytes)
-
-abbrev pub is_printable : ℕ → Bool
-is_printable b = nat_le 32 b && nat_le b 126
+-- 1. Lines that say nothing
 
 -- a line without fields, or a comment
 abbrev pub is_skipped : List (List ℕ) → Bool
 is_skipped [] = true
 is_skipped ([] ∷ fields) = false
 is_skipped ((b ∷ bytes) ∷ fields) = b == 35
-
--- the number that digits spell after those that spell n
-abbrev pub spelled_from : ℕ → List ℕ → Option ℕ
-spelled_from n [] = Some n
-spelled_from n (b ∷ bytes) = if is_ascii_digit b then spelled_from (10 * n + (b - 48)) bytes else None
-
-abbrev pub if_word : ℕ → Option ℕ
-if_word n = if nat_lt n (2 ^ 64) then Some n else None
-
--- A number of at most 64 bits: `0`, or digits of which the first is not 0.
-abbrev pub number_of : List ℕ → Option ℕ
-number_of [] = None
-number_of (b ∷ []) = option_and_then if_word (spelled_from 0 (b ∷ []))
-number_of (b ∷ c ∷ bytes) = if b == 48 then None else option_and_then if_word (spelled_from 0 (b ∷ c ∷ bytes))
 
 -- 2. One line by itself
 

@@ -20,8 +20,8 @@ pub mod trace;
 
 pub use cursor::Cursor;
 pub use error::{ParseRefusal, TraceError};
-pub use parser::{MAX_BYTES, parse, read_number};
-pub use printing::{print, push_line};
+pub use parser::{MAX_BYTES, parse};
+pub use printing::print;
 pub use reason::Reason;
 pub use script::Item;
 pub use trace::{Program, Trace};

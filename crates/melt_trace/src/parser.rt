@@ -1,6 +1,6 @@
 //! The parser of whole traces.
 ghost use Rattle.std.specs.Prelude.{◌≡◌, ◌<◌, length, Ok, IfOk, IfErr};
-ghost use Rattle.melt_trace.specs.Language.{number_of, script_of};
+ghost use Rattle.melt_trace.specs.Language.{script_of};
 ghost use Rattle.melt_trace.specs.Drafts.{place_of, IsSoundDraft, TakesLine};
 ghost use Rattle.melt_trace.specs.Refusal.{IsRefusedTrace};
 
@@ -9,8 +9,6 @@ mod draft;
 mod fault;
 mod fields;
 mod line;
-mod lines;
-mod number;
 mod numbers;
 mod operations;
 mod words;
@@ -21,10 +19,9 @@ use crate::parser::canonical::canonical_operation;
 use crate::parser::draft::Draft;
 use crate::parser::fault::Fault;
 use crate::parser::line::take_line;
-use crate::parser::lines::next_line;
-use crate::parser::number::number;
 use crate::reason::Reason;
 use crate::trace::Trace;
+use melt_text::next_line;
 use std::alloc::Global;
 
 /// The most bytes that a trace may have.
@@ -83,12 +80,4 @@ pub fn parse(alloc: Global, bytes: &[u8]) -> Result<Trace, ParseRefusal>
 {
     let draft = read_lines(alloc, bytes)?;
     Ok(draft.into_trace())
-}
-
-/// The number that bytes spell as a field of a trace does: `0`, or decimal digits of which the first is not 0, below
-/// 2^64.
-pub fn read_number(bytes: &[u8]) -> Option<u64>
-    ensures { result ≡ number_of bytes.now }
-{
-    number(bytes)
 }

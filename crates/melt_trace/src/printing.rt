@@ -1,36 +1,15 @@
 //! The text of a trace.
 ghost use Rattle.std.specs.Prelude.{◌≡◌, ◌≤◌, [], ◌++◌, ◌∷◌, length, codes, Ok, IfOk, OnOk};
-ghost use Rattle.std.specs.Fmt.{decimal};
 ghost use Rattle.std.specs.List.{flat_map};
-ghost use Rattle.melt_trace.specs.Grammar.{line, op_line, item_line, program_lines, canonical};
+ghost use Rattle.melt_text.specs.Printed.{line};
+ghost use Rattle.melt_trace.specs.Grammar.{op_line, item_line, program_lines, canonical};
 ghost use Rattle.melt_trace.specs.Language.{max_bytes, script_of};
 
 use crate::script::Item;
 use crate::trace::{Program, Trace};
-use itoa::Buffer;
 use melt_model::{NoMemory, Op};
+use melt_text::push_line;
 use std::alloc::Global;
-
-fn push_number(out: &mut Vec<u8>, number: u64) -> Result<(), NoMemory>
-    ensures { OnOk result (out.new.items ≡ out.old.items ++ (32 ∷ decimal number)) }
-{
-    let mut buffer = Buffer::new();
-    out.push(b' ')?;
-    out.extend_from_slice(buffer.format(number).as_bytes())?;
-    Ok(())
-}
-
-/// Adds a line: a word, and numbers after it.
-pub fn push_line(out: &mut Vec<u8>, word: &[u8], numbers: &[u64]) -> Result<(), NoMemory>
-    ensures { OnOk result (out.new.items ≡ out.old.items ++ line word.now numbers.now) }
-{
-    out.extend_from_slice(word)?;
-    for number in numbers {
-        push_number(out, *number)?;
-    }
-    out.push(b'\n')?;
-    Ok(())
-}
 
 fn push_one(out: &mut Vec<u8>, word: &[u8], a: u8) -> Result<(), NoMemory>
     ensures { OnOk result (out.new.items ≡ out.old.items ++ line word.now (a ∷ [])) }

@@ -1,3 +1,4 @@
 mod generated;
 mod stats;
+mod text;
 mod trace;

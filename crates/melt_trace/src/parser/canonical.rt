@@ -6,7 +6,8 @@
 //! line may still be good, and is then read field by field.
 ghost use Rattle.std.specs.Prelude.{◌≡◌, ◌+◌, ◌<◌, [], ◌∷◌, ◌++◌, IfSome};
 ghost use Rattle.std.specs.Fmt.{decimal};
-ghost use Rattle.melt_trace.specs.Grammar.{line, op_line, InRange};
+ghost use Rattle.melt_text.specs.Printed.{line};
+ghost use Rattle.melt_trace.specs.Grammar.{op_line, InRange};
 
 use melt_model::{MAX_PARTS, Op};
 

@@ -7,11 +7,12 @@ ghost use Rattle.melt_trace.specs.Drafts.{place_of, IsSoundDraft, LeadsTo};
 use crate::language::{Expected, Word};
 use crate::parser::draft::Draft;
 use crate::parser::fault::Fault;
-use crate::parser::fields::{Arguments, is_printable_line, next_field, other_fields};
+use crate::parser::fields::{Arguments, other_fields};
 use crate::parser::numbers::{Limits, heading, none, one, two};
 use crate::parser::operations::operation;
 use crate::parser::words::word;
 use crate::reason::Reason;
+use melt_text::{is_printable_line, next_field};
 use std::alloc::Global;
 
 const MAX_THREADS: u64 = 8;

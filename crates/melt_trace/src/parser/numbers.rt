@@ -1,14 +1,15 @@
 //! The numbers of a line, each in its range.
 ghost use Rattle.std.specs.Prelude.{◌≡◌, ◌≤◌, ◌-◌, ℕ, List, [], ◌∷◌, IfOk};
-ghost use Rattle.melt_trace.specs.Language.{number_of, checked, numbers, from_to, global, heading};
+ghost use Rattle.melt_text.specs.Numbers.{number_of};
+ghost use Rattle.melt_trace.specs.Language.{checked, numbers, from_to, global, heading};
 ghost use Rattle.melt_trace.specs.Reasons.{number_of_reason};
 ghost use Rattle.melt_trace.specs.Parsing.{AreArguments, Gives, range_of};
 
 use crate::parser::fields::Arguments;
-use crate::parser::number::number;
 use crate::parser::words::is;
 use crate::reason::Reason;
 use melt_model::MAX_PARTS;
+use melt_text::read_number;
 
 /// What a number may be, and the reason to refuse another.
 #[derive(Clone, Copy)]
@@ -98,7 +99,7 @@ fn number_in(limits: Limits, field: &[u8]) -> Result<u64, Reason>
     ensures value { Gives (λ n. n) result (checked (range_of limits) (number_of field.now)) }
     ensures within { IfOk result (λ n. (limits.low ≤ n) × (n ≤ limits.high)) }
 {
-    match number(field) {
+    match read_number(field) {
         None => Err(Reason::NoNumber),
         Some(n) if limits.low <= n && n <= limits.high => Ok(n),
         Some(_) => Err(limits.reason),
@@ -175,7 +176,7 @@ pub fn heading(
     if !is(first, text) {
         return Err(limits.reason);
     }
-    match number(field) {
+    match read_number(field) {
         Some(n) if limits.low <= n && n <= limits.high => Ok(n),
         _ => Err(limits.reason),
     }

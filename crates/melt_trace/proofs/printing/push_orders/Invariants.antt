@@ -1,7 +1,7 @@
 use Rattle.std.proofs.Common.{◌≡◌, ℕ, [], ◌∷◌, ◌++◌, take}
 use Rattle.std.specs.Prelude.{codes}
 use Rattle.std.specs.List.{flat_map}
-use Rattle.melt_trace.specs.Grammar.{line}
+use Rattle.melt_text.specs.Printed.{line}
 use Rattle.melt_trace.proofs.printing.push_orders.Given as goal
 
 abbrev pub invariant-loop-thread : goal.invariant-loop-thread
