@@ -1,7 +1,7 @@
 //! The outside of the program as traits, so that a contract can speak of what was read and written:
 //! sources, sinks, disks of stale objects and their readers, files with positioned reads and writes, and
-//! gates. Beside them forms in memory, adapters over the real outside, a disk over a file, and the two calls
-//! that read all and write all.
+//! gates. Beside them forms in memory, adapters over the real outside, a disk over a file, a source and a sink that
+//! pass bytes on in pieces, and the two calls that read all and write all.
 //!
 //! Two kinds of meaning stand on each trait. What an object tells of its content is an `Option`: the
 //! forms in memory tell theirs, the adapters tell none, and no call changes whether an object tells.
@@ -17,6 +17,7 @@ pub mod mem_file;
 pub mod memory;
 pub mod outside;
 mod overlay;
+pub mod pieces;
 pub mod steady;
 pub mod whole;
 pub mod words;
@@ -31,6 +32,7 @@ pub use outside::{
     Failed, Gate, LendRefusal, PositionedFile, PositionedReader, RecordReader, Sink, Source,
     StaleDisk,
 };
+pub use pieces::{PieceSink, PieceSource};
 pub use steady::{SteadyDisk, SteadyReader, SteadySink, SteadySource};
 pub use whole::{ReadRefusal, read_all, write_all};
 pub use words::{get_words, put_words, words_read_back};

@@ -6,4 +6,6 @@
 #[cfg(test)]
 mod names;
 #[cfg(test)]
+mod pieces;
+#[cfg(test)]
 mod tests;
