@@ -97,7 +97,7 @@ fn time_walks_on_file<X: Threads + Wait + Sync + Clock>(
     lists: Lists,
     epochs: u32,
 ) -> Result<Times> {
-    let mut disk = FileDisk::new(files.alloc(), files)?;
+    let mut disk = FileDisk::new(files.alloc(), files, 0);
     time_walks(rt, files.alloc(), &mut disk, tag, lists, epochs)
 }
 

@@ -39,7 +39,7 @@ fn run_once<X: Threads + Sync + Clock>(
     requires ranges { InRanges asked.config }
 {
     if asked.is_on_file {
-        let mut disk = FileDisk::new(alloc, files)?;
+        let mut disk = FileDisk::new(alloc, files, 0);
         time_run(rt, alloc, trace, asked.config, &mut disk)
     } else {
         let mut disk = SteadyDisk::new(alloc);

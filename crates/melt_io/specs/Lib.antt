@@ -1,5 +1,6 @@
 pub mod Lies
 pub mod MemFile
+pub mod Names
 pub mod Outside
 pub mod Whole
 pub mod Words

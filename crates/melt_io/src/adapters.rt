@@ -2,6 +2,7 @@
 ghost use Rattle.std.specs.Prelude.{◌≡◌, ◌+◌, ◌^◌, ◌<◌, ◌≤◌, true, false, is_some, None, length, IfOk, IsNone, OnOk};
 ghost use Rattle.std.specs.Prelude.{OnErr};
 ghost use Rattle.std.specs.Io.KnownBytes.{ReadConsumes, WriteAppends};
+ghost use Rattle.melt_io.specs.Names.{name_of};
 ghost use Rattle.melt_io.specs.Outside.{CountsFault};
 
 use crate::faults::Faults;
@@ -11,9 +12,6 @@ use std::fs::{self, OpenFile, OpenOptions};
 use std::io::{self, ErrorKind, Read, Write};
 use std::os::unix::fs::{FileExt, OpenOptionsExt};
 use std::rt::Files;
-
-/// The name of the file of a `StdFile`.
-const PATH: &str = "melt.stale";
 
 /// Who may do what with that file: its owner may read and write it, and nobody else.
 const OWNER_ALONE: u32 = 0o600;
@@ -41,16 +39,19 @@ pub struct StdSink<W> {
     ghost word: { faults < 2 ^ 64 },
 }
 
-/// The file `melt.stale` of the current folder. The folder is not touched before `create`, which makes a file of its own: what
-/// stands at that name is removed, and no link is followed. Readers are clones of its handle, and each read and write names
+/// One of eight files of the current folder: `melt.stale` is that of the number 0, and `melt.stale.1` to `melt.stale.7` are the
+/// others. The folder is not touched before `create`, which makes a file of its own: what stands at that name is removed, and no
+/// link is followed. Readers are clones of its handle, and each read and write names
 /// its place; so nothing that is done to the name later, and no other reader, changes what is read. An error of a call of
 /// std is `Failed`, but where `create` can try again. It tells no content.
 #[derive(Drop)]
 #[derive_where(Debug; R, R::File: Debug)]
 pub struct StdFile<R: Files> {
     pub runtime: R,
+    pub number: u8,
     pub file: Option<R::File>,
     pub faults: Faults,
+    ghost one_of_eight: { number < 8 },
     ghost word: { faults < 2 ^ 64 },
 }
 
@@ -129,14 +130,17 @@ impl<W: Write> Sink for StdSink<W> {
 }
 
 impl<R: Files> StdFile<R> {
-    /// The file of the current folder, of which no call has failed.
-    pub fn new(runtime: R) -> StdFile<R>
+    /// The file of this number in the current folder, of which no call has failed.
+    pub fn new(runtime: R, number: u8) -> StdFile<R>
+        requires { number < 8 }
         ensures runtime { result.runtime ≡ runtime }
+        ensures number { result.number ≡ number }
         ensures no_file { IsNone result.file }
         ensures no_faults { result.faults ≡ 0 }
     {
         StdFile {
             runtime,
+            number,
             file: None,
             faults: Faults::none(),
         }
@@ -175,7 +179,7 @@ where
     }
 
     fn create(&mut self) -> Result<(), Failed> {
-        match make_new(&self.runtime) {
+        match make_new(&self.runtime, name_of(self.number)) {
             Ok(file) => {
                 self.file = Some(file);
                 Ok(())
@@ -202,15 +206,34 @@ where
     }
 }
 
-/// Makes the file that is at `PATH` then. One that is there from before is removed, and so is that of a run that was faster.
-fn make_new<R: Files>(files: &R) -> io::Result<R::File> {
+/// The name of the file of a number.
+#[tactic(auto, using(std::proofs::lemmas::Fmt::decimal_digit))]
+fn name_of(number: u8) -> &'static str
+    requires { number < 8 }
+    ensures { result.now ≡ name_of number }
+{
+    match number {
+        0 => "melt.stale",
+        1 => "melt.stale.1",
+        2 => "melt.stale.2",
+        3 => "melt.stale.3",
+        4 => "melt.stale.4",
+        5 => "melt.stale.5",
+        6 => "melt.stale.6",
+        7 => "melt.stale.7",
+        _ => unreachable!(),
+    }
+}
+
+/// Makes the file of that name. One that is there from before is removed, and so is that of a run that was faster.
+fn make_new<R: Files>(files: &R, name: &str) -> io::Result<R::File> {
     let mut how = OpenOptions::new();
     // `create_new` opens nothing that is there and follows no link, so the file is this run's own.
     how.read(true).write(true).create_new(true);
     how.mode(OWNER_ALONE);
     for _ in 0..TRIES {
-        remove_old(files)?;
-        match how.open(files, PATH) {
+        remove_old(files, name)?;
+        match how.open(files, name) {
             Err(e) if e.kind() == ErrorKind::AlreadyExists => {}
             made => return made,
         }
@@ -218,9 +241,9 @@ fn make_new<R: Files>(files: &R) -> io::Result<R::File> {
     Err(io::Error::from(ErrorKind::AlreadyExists))
 }
 
-/// Removes what is at `PATH`, if anything is there.
-fn remove_old<R: Files>(files: &R) -> io::Result<()> {
-    match fs::remove_file(files, PATH) {
+/// Removes what has that name, if anything has.
+fn remove_old<R: Files>(files: &R, name: &str) -> io::Result<()> {
+    match fs::remove_file(files, name) {
         Err(e) if e.kind() == ErrorKind::NotFound => Ok(()),
         removed => removed,
     }

@@ -1,5 +1,5 @@
 //! A disk in a file.
-ghost use Rattle.std.specs.Prelude.{◌≡◌, ◌+◌, ◌*◌, ◌<◌, ◌≤◌, ◌^◌, ◌↔◌, true, None, length, take, drop, vec_len, IsNone};
+ghost use Rattle.std.specs.Prelude.{◌≡◌, ◌+◌, ◌*◌, ◌<◌, ◌≤◌, ◌^◌, ◌↔◌, true, None, length, take, drop, vec_len, IsNone, IsTrue};
 ghost use Rattle.std.specs.Prelude.{IsSome, IsErr, IsErrOf, IfOk, IfSome, OnOk, OnErr};
 ghost use Rattle.melt_io.specs.Outside.{CountsFault, KeepsOthers, Rose, Writes, counted};
 ghost use Rattle.melt_io.specs.Words.{word_bytes, words_in_bytes};
@@ -10,20 +10,24 @@ use crate::outside::{
     Failed, LendRefusal, PositionedFile, PositionedReader, RecordReader, StaleDisk,
 };
 use crate::words::{get_words, put_words};
-use melt_model::NoMemory;
 use std::alloc::Global;
 use std::rt::Files;
 
 /// How many words are moved at once.
 const PIECE: usize = 4096;
 
+/// How many are where there is no memory for so many.
+const FEW: usize = 64;
+
 /// Keeps the words in a file, word w in the 8 bytes from byte 8 * w on, its lowest byte first. The file is
 /// made at the first write. Up to 4,096 words go to the file by one write, and more by one for
-/// each 4,096. Where a call of the file fails, the answer is `Failed`. It tells no words: its clauses speak of
-/// the bytes of the file.
+/// each 4,096; where there is no memory for so many, each write has 64. Where a call of the file fails, the answer is
+/// `Failed`. It tells no words: its clauses speak of the bytes of the file.
 #[derive(Debug, Drop)]
 pub struct FileDisk<F> {
     pub file: F,
+    /// The bytes of the words that are written. It is empty before the first write, so that a disk that is never written
+    /// takes no memory.
     pub piece: Vec<u8>,
     /// That of a reader that was given back, for the next one.
     spare: Option<Vec<u8>>,
@@ -31,7 +35,6 @@ pub struct FileDisk<F> {
     pub lends: u64,
     pub faults: Faults,
     pub read_faults: u64,
-    ghost roomy: { 8 ≤ vec_len piece },
     ghost word: { faults < 2 ^ 64 },
 }
 
@@ -50,41 +53,43 @@ pub struct FileReader<F> {
 }
 
 impl<R: Files + Drop> FileDisk<StdFile<R>> {
-    /// A disk in a file `melt.stale` of its own in the current folder, of which nothing was written. What is there from before
-    /// is not touched yet.
-    pub fn new(alloc: Global, runtime: R) -> Result<FileDisk<StdFile<R>>, NoMemory>
-        ensures runtime { IfOk result (λ disk. disk.file.runtime ≡ runtime) }
-        ensures no_file { IfOk result (λ disk. IsNone disk.file.file) }
-        ensures no_file_faults { IfOk result (λ disk. disk.file.faults ≡ 0) }
-        ensures piece { IfOk result (λ disk. vec_len disk.piece ≡ 32768) }
-        ensures no_writes { IfOk result (λ disk. disk.writes ≡ 0) }
-        ensures no_lends { IfOk result (λ disk. disk.lends ≡ 0) }
-        ensures no_faults { IfOk result (λ disk. disk.faults ≡ 0) }
-        ensures no_read_faults { IfOk result (λ disk. disk.read_faults ≡ 0) }
+    /// A disk in a file of its own in the current folder, that of this number, of which nothing was written. What is there from
+    /// before is not touched yet.
+    pub fn new(alloc: Global, runtime: R, number: u8) -> FileDisk<StdFile<R>>
+        requires { number < 8 }
+        ensures runtime { result.file.runtime ≡ runtime }
+        ensures number { result.file.number ≡ number }
+        ensures no_file { IsNone result.file.file }
+        ensures no_file_faults { result.file.faults ≡ 0 }
+        ensures no_piece { vec_len result.piece ≡ 0 }
+        ensures no_writes { result.writes ≡ 0 }
+        ensures no_lends { result.lends ≡ 0 }
+        ensures no_faults { result.faults ≡ 0 }
+        ensures no_read_faults { result.read_faults ≡ 0 }
     {
-        FileDisk::over(alloc, StdFile::new(runtime))
+        FileDisk::over(alloc, StdFile::new(runtime, number))
     }
 }
 
 impl<F: Drop> FileDisk<F> {
     /// A disk in this file, of which nothing was written. The file is not touched yet.
-    pub fn over(alloc: Global, file: F) -> Result<FileDisk<F>, NoMemory>
-        ensures file { IfOk result (λ disk. disk.file ≡ file) }
-        ensures piece { IfOk result (λ disk. vec_len disk.piece ≡ 32768) }
-        ensures no_writes { IfOk result (λ disk. disk.writes ≡ 0) }
-        ensures no_lends { IfOk result (λ disk. disk.lends ≡ 0) }
-        ensures no_faults { IfOk result (λ disk. disk.faults ≡ 0) }
-        ensures no_read_faults { IfOk result (λ disk. disk.read_faults ≡ 0) }
+    pub fn over(alloc: Global, file: F) -> FileDisk<F>
+        ensures file { result.file ≡ file }
+        ensures no_piece { vec_len result.piece ≡ 0 }
+        ensures no_writes { result.writes ≡ 0 }
+        ensures no_lends { result.lends ≡ 0 }
+        ensures no_faults { result.faults ≡ 0 }
+        ensures no_read_faults { result.read_faults ≡ 0 }
     {
-        Ok(FileDisk {
+        FileDisk {
             file,
-            piece: vec![in alloc; 0; 8 * PIECE]?,
+            piece: Vec::new(alloc),
             spare: None,
             writes: 0,
             lends: 0,
             faults: Faults::none(),
             read_faults: 0,
-        })
+        }
     }
 }
 
@@ -234,11 +239,10 @@ fn open_file<F: PositionedFile>(file: &mut F) -> Result<Option<F::Reader>, Faile
 /// Writes the words from word `at` on, to a file that is made first where it was not.
 fn write_file<F: PositionedFile>(
     file: &mut F,
-    piece: &mut [u8],
+    piece: &mut Vec<u8>,
     at: u32,
     words: &[u64],
 ) -> Result<(), Failed>
-    requires room { 8 ≤ length piece.old }
     requires some { 0 < length words.now }
     requires in_range { at + length words.now ≤ 2 ^ 32 }
     ensures written { OnOk result (Writes (F.bytes file.old) (8 * at) (word_bytes words.now) (F.bytes file.new)) }
@@ -252,7 +256,18 @@ fn write_file<F: PositionedFile>(
     if !file.is_made() {
         file.create()?;
     }
-    write_words(file, piece, at, words)
+    if has_room(piece) {
+        return write_words(file, piece, at, words);
+    }
+    write_words(file, &mut [0; 8 * FEW], at, words)
+}
+
+/// Takes the bytes for the words that are written, where they were not taken and there is memory for them. Answers whether
+/// they are there.
+fn has_room(piece: &mut Vec<u8>) -> bool
+    ensures { IsTrue result → 8 ≤ vec_len piece.new }
+{
+    piece.len() == 8 * PIECE || piece.resize(8 * PIECE, 0).is_ok()
 }
 
 /// Writes the words from word `at` on, each run of them through `piece`.

@@ -1,5 +1,6 @@
 //! Tests of which file a disk makes in a folder, and that it keeps it whatever becomes of the name. Each runs in a folder of its
 //! own.
+ghost use Rattle.std.specs.Prelude.{◌<◌};
 
 use crate::tests::read_into;
 use melt_io::{Failed, FileDisk, RecordReader, StaleDisk};
@@ -57,10 +58,33 @@ fn write_to_both<D: StaleDisk>(alloc: Global, first: &mut D, second: &mut D) -> 
 #[test]
 fn disks_in_one_folder_keep_their_own_words(rt: HostRuntime) -> Result<(), Fail> {
     enter(&rt, "own_words")?;
-    let mut first = FileDisk::new(rt.alloc(), rt)?;
-    let mut second = FileDisk::new(rt.alloc(), rt)?;
+    let mut first = FileDisk::new(rt.alloc(), rt, 0);
+    let mut second = FileDisk::new(rt.alloc(), rt, 0);
     write_to_both(rt.alloc(), &mut first, &mut second)?;
     leave(&rt, "own_words")
+}
+
+/// Writes to a new disk of this number, whose file has this name then, and not before.
+fn write_numbered(rt: HostRuntime, number: u8, name: &str) -> Result<(), Fail>
+    requires { number < 8 }
+{
+    let mut disk = FileDisk::new(rt.alloc(), rt, number);
+    let is_early = fs::symlink_metadata(&rt, name).is_ok();
+    disk.write_at(u32::from(number), &[5])?;
+    let size = fs::metadata(&rt, name)?.len();
+    same(
+        (name, is_early, size),
+        (name, false, 8 * u64::from(number) + 8),
+    )
+}
+
+#[test]
+fn each_number_has_a_file_of_its_own(rt: HostRuntime) -> Result<(), Fail> {
+    enter(&rt, "numbers")?;
+    write_numbered(rt, 0, "melt.stale")?;
+    write_numbered(rt, 1, "melt.stale.1")?;
+    write_numbered(rt, 7, "melt.stale.7")?;
+    leave(&rt, "numbers")
 }
 
 /// Reads one word.
@@ -93,7 +117,7 @@ fn lend_two<D: StaleDisk>(alloc: Global, disk: &mut D) -> Result<(), Fail> {
 #[test]
 fn readers_of_one_file_read_each_at_its_own_place(rt: HostRuntime) -> Result<(), Fail> {
     enter(&rt, "places")?;
-    let mut disk = FileDisk::new(rt.alloc(), rt)?;
+    let mut disk = FileDisk::new(rt.alloc(), rt, 0);
     lend_two(rt.alloc(), &mut disk)?;
     leave(&rt, "places")
 }
@@ -119,7 +143,7 @@ fn exchange<D: StaleDisk>(rt: &HostRuntime, disk: &mut D) -> Result<(), Fail> {
 #[test]
 fn what_becomes_of_the_name_changes_nothing(rt: HostRuntime) -> Result<(), Fail> {
     enter(&rt, "exchanged")?;
-    let mut disk = FileDisk::new(rt.alloc(), rt)?;
+    let mut disk = FileDisk::new(rt.alloc(), rt, 0);
     exchange(&rt, &mut disk)?;
     leave(&rt, "exchanged")?;
     same(disk.faults.count(), 0)
@@ -127,7 +151,7 @@ fn what_becomes_of_the_name_changes_nothing(rt: HostRuntime) -> Result<(), Fail>
 
 /// Writes the word 5 to a new disk in this folder, and reads it.
 fn write_one(rt: HostRuntime) -> Result<(), Fail> {
-    let mut disk = FileDisk::new(rt.alloc(), rt)?;
+    let mut disk = FileDisk::new(rt.alloc(), rt, 0);
     let written = disk.write_at(1, &[5]);
     let words = two_words(rt.alloc(), &mut disk, 1);
     same((written, words), (Ok(()), Some([5, 0])))
@@ -154,7 +178,7 @@ fn a_link_is_removed_and_not_followed(rt: HostRuntime) -> Result<(), Fail> {
 
 /// Writes to a new disk while a folder has the name of its file, and when it has gone.
 fn write_past_folder(rt: HostRuntime) -> Result<(), Fail> {
-    let mut disk = FileDisk::new(rt.alloc(), rt)?;
+    let mut disk = FileDisk::new(rt.alloc(), rt, 0);
     let refused = disk.write_at(1, &[5]);
     let faults = [disk.faults.count(), disk.file.faults.count()];
     let is_removed = fs::remove_dir(&rt, "melt.stale").is_ok();
@@ -250,7 +274,7 @@ fn write_late(rt: HostRuntime, others: u32) -> Result<(), Fail> {
         files: rt,
         others: Cell::new(others),
     };
-    let mut disk = FileDisk::new(rt.alloc(), files)?;
+    let mut disk = FileDisk::new(rt.alloc(), files, 0);
     let is_refused = disk.write_at(1, &[5]).is_err();
     let left = disk.file.runtime.others.get();
     same((others, is_refused, left), (others, others == 1000, 0))

@@ -166,7 +166,7 @@ fn write_to_file<D: StaleDisk>(rt: &HostRuntime, disk: &mut D) -> Result<(), Fai
 
 #[test]
 fn the_file_has_the_lowest_byte_of_each_word_first(rt: HostRuntime) -> Result<(), Fail> {
-    let mut disk = FileDisk::new(rt.alloc(), rt)?;
+    let mut disk = FileDisk::new(rt.alloc(), rt, 0);
     write_to_file(&rt, &mut disk)?;
     let counts = [disk.lends, disk.faults.count(), disk.read_faults];
     same(counts, [1, 0, 0])
@@ -181,7 +181,7 @@ fn disk_in_memory(
     let mut file = MemFile::new(alloc);
     file.fail.extend_from_slice(fail)?;
     file.fail_reads.extend_from_slice(fail_reads)?;
-    Ok(FileDisk::over(alloc, file)?)
+    Ok(FileDisk::over(alloc, file))
 }
 
 /// Writes two records, and counts the calls of the file.
@@ -312,7 +312,7 @@ fn a_reader_lent_before_the_first_write_fails_each_read(rt: HostRuntime) -> Resu
 
 #[test]
 fn a_reader_without_a_file_fails_each_read(rt: HostRuntime) -> Result<(), Fail> {
-    let mut disk = FileDisk::new(rt.alloc(), rt)?;
+    let mut disk = FileDisk::new(rt.alloc(), rt, 0);
     let mut reader = disk.lend(rt.alloc())?;
     let read = reader.read_at(7, &mut [9; 2]);
     disk.give_back(reader);

@@ -32,8 +32,9 @@ fn main(rt: HostRuntime) -> ExitCode {
     let mut input = StdSource::new(rt.stdin());
     let mut out = StdSink::new(rt.stdout());
     // The disk's file is made at the first write, so a run that writes none does not touch it.
-    let status = match (words(&rt), FileDisk::new(rt.alloc(), rt)) {
-        (Ok(words), Ok(mut disk)) => melt(
+    let mut disk = FileDisk::new(rt.alloc(), rt, 0);
+    let status = match words(&rt) {
+        Ok(words) => melt(
             &rt,
             rt.alloc(),
             &words,
@@ -42,7 +43,7 @@ fn main(rt: HostRuntime) -> ExitCode {
             &mut disk,
             &OpenGate,
         ),
-        _ => Status::NoMemory,
+        Err(AllocError) => Status::NoMemory,
     };
     ExitCode::from(status.code())
 }
