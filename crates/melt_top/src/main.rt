@@ -43,7 +43,7 @@ fn main(rt: HostRuntime) -> ExitCode {
             &mut disk,
             &OpenGate,
         ),
-        Err(AllocError) => Status::NoMemory,
+        Err(_) => Status::NoMemory,
     };
     ExitCode::from(status.code())
 }
