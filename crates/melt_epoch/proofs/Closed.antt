@@ -2,7 +2,7 @@
 use Rattle.std.proofs.Common.{◌≡◌, ℕ, zero, suc, ◌+◌, ◌-◌, ◌<◌, ◌≤◌}
 use Rattle.std.proofs.Common.{List, [], ◌∷◌, length, map, get_or, drop, take, true}
 use Rattle.std.proofs.Common.{refl, sym, ◌∙◌, ap, subst, arith, inl, inr}
-use Rattle.std.proofs.lemmas.List.{length-drop, length-take}
+use Rattle.std.proofs.lemmas.List.{get_or-drop, length-drop, length-take}
 use Rattle.std.specs.List.{sum_by}
 use Rattle.std.specs.Option.{option_map}
 use Rattle.std.specs.Prelude.{All, Option, None, Some, min, slice_index}
@@ -12,21 +12,20 @@ use Rattle.atomic_table.proofs.Lists.{at_map}
 use Rattle.melt_model.specs.Thread.{value_in}
 use Rattle.melt_model.specs.declared.history.Value.{Value}
 use Rattle.melt_model.specs.declared.history.Value.TheVariants.{Ref}
-use Rattle.melt_scion.specs.Changes.{FreeMoves}
+use Rattle.melt_space.specs.Space.{word_at}
 use Rattle.melt_scion.specs.GhostMaps.{NamePairs}
 use Rattle.melt_scion.specs.Heaps.{HasNames, state_of}
 use Rattle.melt_scion.specs.Placed.{Holds, Maps, MayHold, value_at}
-use Rattle.melt_scion.specs.State.{IsFresh, State}
+use Rattle.melt_scion.specs.State.{State}
 use Rattle.melt_scion.specs.declared.heap.Heap.{Heap}
 use Rattle.melt_scion.specs.declared.heap.Names.{Names as HeapNames}
-use Rattle.melt_core.proofs.Resting.{holds_shifts}
 use Rattle.melt_core.specs.StaleBits.{BitsTold}
-use Rattle.melt_rule.proofs.Laying.{shown_by_parts, state_by}
+use Rattle.melt_rule.proofs.Laying.{state_by}
 use Rattle.melt_rule.specs.Ending.{HasEnded as WordsEnd, HistoryEnds as HistorySeen}
 use Rattle.melt_rule.specs.Rule.{Has, Saw, filled_count, has_cause, threads_of}
 use Rattle.melt_rule.specs.Seats.{EpochWords}
 use Rattle.melt_rule.specs.Shown.{forwards_in, free_place, globals_from, globals_in, shows}
-use Rattle.melt_rule.specs.Sights.{first_sight, last_sight, no_calls}
+use Rattle.melt_rule.specs.Sights.{first_sight, last_sight}
 use Rattle.melt_rule.specs.Tells.{Names}
 use Rattle.melt_rule.specs.declared.began.Began.{Began}
 use Rattle.melt_rule.specs.declared.began.Start.{Start}
@@ -34,6 +33,7 @@ use Rattle.melt_rule.specs.declared.view.View.{View}
 use Rattle.melt_epoch.proofs.Begun.{same_parts}
 use Rattle.melt_epoch.proofs.Gathered.{Back, all_flag, all_has, all_only, all_sum, all_threads, away_is, away_of}
 use Rattle.melt_epoch.proofs.Gathered.{comes_back, contains_at, gathered_first, some_cause, stands_at}
+use Rattle.melt_epoch.proofs.InUse.{SameInUse, bits_in_use, fresh_in_use, holds_in_use}
 use Rattle.melt_epoch.proofs.Paired.{pairs_name, pairs_with}
 use Rattle.melt_epoch.specs.Ends.{HasEnded, HeapEnds, HistoryEnds, HoldsValues, MapsEnd}
 use Rattle.melt_epoch.specs.Ends.{MayEnd, disk_of, free_after, view_of}
@@ -83,10 +83,6 @@ held_stands : (maps : Maps) (a n : ℕ) → maps.address a ≡ Some n → 1 ≤ 
 held_stands maps zero n is first = absurd (omega arith)
 held_stands maps (suc k) n is first = ap (option_map Ref) is
 
-fresh_again : (s t : State) (a : ℕ) → ((k : ℕ) → t.word k ≡ s.word k) → IsFresh s a → IsFresh t a
-fresh_again s t a same fresh header at =
-    fresh header (record { in_range = at.in_range; word = sym (same a) ∙ at.word })
-
 module _ {R : Type 0} (words : EpochWords) (ms : List (Mutator R)) (may : MayEnd words ms) (old new : Heap) (end : ℕ)
     (fits : Fits words old end) (pairs : NamePairs) (ended : List ℕ) (v : View)
     (gathers : v ≡ gathered_all (map view_of ms)) (has : WordsEnd words.start ended v)
@@ -106,20 +102,8 @@ module _ {R : Type 0} (words : EpochWords) (ms : List (Mutator R)) (may : MayEnd
       ∙ (ap (λ (n : ℕ). take n (drop (globals_from + length old.globals) ended)) fits.forwards
       ∙ ap (λ (n : ℕ). take b.forwards (drop (globals_from + n) ended)) fits.globals)
 
-  new_space : new.space.list ≡ take b.size (drop (globals_from + b.globals + b.forwards) ended)
-  new_space =
-      puts.space
-      ∙ (ap (λ (n : ℕ). take n (drop (globals_from + length old.globals + length old.forward) ended)) fits.size
-      ∙ (ap (λ (n : ℕ). take b.size (drop (globals_from + n + length old.forward) ended)) fits.globals
-      ∙ ap (λ (n : ℕ). take b.size (drop (globals_from + b.globals + n) ended)) fits.forwards))
-
   size_is : length new.space.list ≡ b.size
-  size_is =
-      let dropped = length-drop (globals_from + b.globals + b.forwards) ended in
-      let taken = length-take b.size (drop (globals_from + b.globals + b.forwards) ended) in
-      let same = ap length new_space in
-      let all = has.size in
-      omega arith
+  size_is = puts.size ∙ fits.size
 
   globals_are : length new.globals ≡ b.globals
   globals_are =
@@ -141,33 +125,42 @@ module _ {R : Type 0} (words : EpochWords) (ms : List (Mutator R)) (may : MayEnd
   scions_are = puts.scions ∙ fits.scions
 
   abbrev before : State
-  before = state_by b (slice_index ended free_place) new.globals new.forward new.space
+  before = shows b ended
 
   abbrev after : State
-  after = state_by b (new.space.used + 1) new.globals new.forward new.space
+  after = state_of new [] (disk_of b)
 
-  shown : shows b ended ≡ before
-  shown =
-      shown_by_parts b ended new.space has.size new_space
-      ∙ (λ i. state_by b (slice_index ended free_place) (sym new_globals i) (sym new_forwards i) new.space)
+  abbrev by_parts : State
+  by_parts = state_by b (new.space.used + 1) new.globals new.forward new.space
 
-  rests : after ≡ state_of new [] (disk_of b)
+  rests : by_parts ≡ after
   rests = same_parts b new size_is globals_are forwards_are scions_are
 
-  moves : FreeMoves before after after.free
-  moves = record { base = refl; is = refl; word = λ k. refl; global = λ g. refl; forward = λ p. refl }
+  used_is : new.space.used ≡ min (slice_index ended free_place - 1) b.size
+  used_is = puts.used ∙ ap (λ (n : ℕ). min (slice_index ended free_place - 1) n) fits.size
 
-  ends : (e : ℕ) → e ≤ before.free → e ≤ before.base.size + 1 → e ≤ after.free
-  ends e below within =
-      let used : new.space.used ≡ min (slice_index ended free_place - 1) (length old.space.list) = puts.used in
-      let size : length old.space.list ≡ b.size = fits.size in
-      omega (arith, used, size, below, within)
+  -- a word in use is that of the table
+  word_same : (k : ℕ) → k < before.free → k < before.base.size + 1 → word_at new.space k ≡ before.word k
+  word_same zero below within = refl
+  word_same (suc k) below within =
+      let from : ℕ = globals_from + b.globals + b.forwards in
+      let in_use : k < new.space.used = omega (arith, used_is, below, within) in
+      puts.space k in_use
+      ∙ (ap (λ (n : ℕ). slice_index ended (globals_from + n + length old.forward + k)) fits.globals
+      ∙ (ap (λ (n : ℕ). slice_index ended (globals_from + b.globals + n + k)) fits.forwards
+      ∙ sym (get_or-drop from ended k 0)))
 
-  holds_on : Holds b.told v.seen has.maps (state_of new [] (disk_of b))
-  holds_on =
-      subst (Holds b.told v.seen has.maps) rests
-      (holds_shifts b.told v.seen has.maps before after moves ends
-      (subst (Holds b.told v.seen has.maps) shown has.holds))
+  in_use_stays : SameInUse before after
+  in_use_stays = subst (SameInUse before) rests (record {
+    base = refl;
+    ends = λ end below within. omega (arith, used_is, below, within);
+    word = word_same;
+    global = λ g. ap (λ (l : List ℕ). slice_index l g) new_globals;
+    forward = λ p. ap (λ (l : List ℕ). slice_index l p) new_forwards;
+  })
+
+  holds_on : Holds b.told v.seen has.maps after
+  holds_on = holds_in_use b.told v.seen has.maps before after in_use_stays has.holds
 
   claimed_is : v.claimed ≡ sum_by (λ (m : Mutator R). (view_of m).claimed) ms
   claimed_is = ap (λ (x : View). x.claimed) gathers ∙ all_sum (λ (x : View). x.claimed) (λ x w. refl) refl ms
@@ -188,9 +181,7 @@ module _ {R : Type 0} (words : EpochWords) (ms : List (Mutator R)) (may : MayEnd
     forwards = forwards_are;
     scions = scions_are;
     nameless = nameless_is;
-    used = puts.used
-        ∙ (ap (λ (n : ℕ). min (n - 1) (length old.space.list)) free_is
-        ∙ ap (λ (n : ℕ). min (free_after b ms - 1) n) fits.size);
+    used = used_is ∙ ap (λ (n : ℕ). min (n - 1) b.size) free_is;
     won = ap (λ (l : List ℕ). filled_count (slice_index l) b.forwards) new_forwards ∙ (has.counts.won ∙ won_is);
     spaced = λ k d below is. subst (λ (n : ℕ). b.size + 1 < n) free_is (has.counts.spaced
         (ap (λ (x : View). x.spaced) gathers ∙ all_flag (λ (x : View). x.spaced) (λ x w. refl) ms k d below is));
@@ -221,34 +212,30 @@ module _ {R : Type 0} (words : EpochWords) (ms : List (Mutator R)) (may : MayEnd
         (all_has ms a n (record { place = k; mutator = m; at = at; is = knows }))
 
     register_stands : (a : ℕ) (value : Value) → Names (view_of m).known a value
-        → (value_at has.maps a ≡ Some value) × MayHold has.maps (state_of new [] (disk_of b)) a
+        → (value_at has.maps a ≡ Some value) × MayHold has.maps after a
     register_stands a value (inl none) =
         (ap (value_at has.maps) none.0 ∙ sym (ap (λ (x : Value). Some x) none.1), inl none.0)
     register_stands a value (inr object) =
         let n = object.0 in
         let knows = in_all a n object.2 in
         let is = has.named.known a n knows in
-        let first = (has.holds.formed.objects a n is).1.first in
-        let fresh : IsFresh after a = fresh_again before after a (λ i. refl)
-        (subst (λ (s : State). IsFresh s a) shown (has.named.fresh a n knows)) in (
+        let first = (has.holds.formed.objects a n is).1.first in (
           held_stands has.maps a n is first ∙ sym (ap (λ (x : Value). Some x) object.1),
-          inr ((n, is), subst (λ (s : State). IsFresh s a) rests fresh),
+          inr (
+            (n, is),
+            fresh_in_use has.maps before after has.holds.formed in_use_stays a (n, is) (has.named.fresh a n knows),
+          ),
         )
 
-    holds_values : HoldsValues has.maps (state_of new [] (disk_of b)) m
+    holds_values : HoldsValues has.maps after m
     holds_values = record {
       stand = λ r. (register_stands (slice_index m.registers.regs r) (value_in m.values r) (its.registers r)).0;
       hold = λ r. (register_stands (slice_index m.registers.regs r) (value_in m.values r) (its.registers r)).1;
     }
 
-  -- its words are those of the table
-  same_words_end : (shows b ended).word ≡ (state_of new [] (disk_of b)).word
-  same_words_end = ap (λ (s : State). s.word) shown ∙ ap (λ (s : State). s.word) rests
-
-  bits_end : b.told ≡ true → BitsTold (first_sight b) (last_sight v.seen has.maps (state_of new [] (disk_of b)))
+  bits_end : b.told ≡ true → BitsTold (first_sight b) (last_sight v.seen has.maps after)
   bits_end told =
-      subst (λ (word : ℕ → ℕ). BitsTold (first_sight b)
-      (record { log = v.seen; maps = has.maps; word = word; stage = no_calls })) same_words_end (has.bits told)
+      bits_in_use has.maps before after has.holds.formed in_use_stays (first_sight b) v.seen (has.bits told)
 
   -- The heap after the epoch, where its pairs were picked.
   pub epoch_ended : pairs ≡ record { addresses = pairs_with v.known b.maps.addresses; homes = b.maps.homes }

@@ -1,11 +1,12 @@
 -- The words of a heap go out of its space and come back, one at a time.
-use Rattle.std.proofs.Common.{◌≡◌, ℕ, suc, ◌+◌, ◌<◌, ◌≤◌}
-use Rattle.std.proofs.Common.{List, length, take, drop}
+use Rattle.std.proofs.Common.{◌≡◌, ℕ, suc, ◌+◌}
+use Rattle.std.proofs.Common.{List, length}
 use Rattle.std.proofs.Common.{sym, ◌∙◌, ap, subst, arith, inl, inr}
 use Rattle.std.proofs.lemmas.Bool.{cases_eq}
-use Rattle.std.proofs.lemmas.List.{ext_get_or, get_or-take, get_or-drop, length-take, length-drop}
+use Rattle.std.proofs.lemmas.List.{ext_get_or}
 use Rattle.std.specs.Prelude.{slice_index}
 use Rattle.melt_space.specs.Space.{AreWords, SetsWord, SpaceWords, word_at}
+use Rattle.melt_epoch.specs.Gathering.{PutsFirst}
 
 -- all words of a space
 pub all_words : (space : SpaceWords) (words : List ℕ) → AreWords space 1 (length space.list) words → words ≡ space.list
@@ -16,25 +17,18 @@ all_words space words are =
     ∙ ap (word_at space) (let next : 1 + i ≡ suc i = omega arith in next))
 
 -- one word more was put back
-pub put_more : {old new : SpaceWords} (words : List ℕ) (from k : ℕ) {word : ℕ} → SetsWord old new (k + 1) word
-    → word ≡ slice_index words (from + k) → ((i : ℕ) → i < k → slice_index old.list i ≡ slice_index words (from + i))
-    → (i : ℕ) → i < k + 1 → slice_index new.list i ≡ slice_index words (from + i)
-put_more {old} {new} words from k {word} sets is stood i below =
+pub put_more : {old now new : SpaceWords} (words : List ℕ) (from k : ℕ) {word : ℕ} → SetsWord now new (k + 1) word
+    → word ≡ slice_index words (from + k) → PutsFirst old now words from k → PutsFirst old new words from (k + 1)
+put_more {old} {now} {new} words from k {word} sets is puts =
     let next : k + 1 ≡ suc k = omega arith in
-    let here : SetsWord old new (suc k) word = subst (λ (n : ℕ). SetsWord old new n word) next sets in
-    elim (cases_eq i k) [
-      | inl same ↦ subst (λ (j : ℕ). slice_index new.list j ≡ slice_index words (from + j)) (sym same) (here.here ∙ is)
-      | inr other ↦ here.others (suc i) (λ e. other (omega arith)) ∙ stood i (omega arith)
-    ]
-
--- all were
-pub put_all : (space : SpaceWords) (words : List ℕ) (from : ℕ) → from + length space.list ≤ length words
-    → ((i : ℕ) → i < length space.list → slice_index space.list i ≡ slice_index words (from + i))
-    → space.list ≡ take (length space.list) (drop from words)
-put_all space words from fits stands =
-    let dropped = length-drop from words in
-    let taken = length-take (length space.list) (drop from words) in
-    ext_get_or 0 space.list (take (length space.list) (drop from words)) (grind (arith, dropped, taken))
-    (λ i below.
-    stands i below
-    ∙ sym (get_or-take (length space.list) (drop from words) i 0 below ∙ get_or-drop from words i 0))
+    let here : SetsWord now new (suc k) word = subst (λ (n : ℕ). SetsWord now new n word) next sets in
+    record {
+      size = here.size ∙ puts.size;
+      used = here.used ∙ puts.used;
+      first = λ i below. elim (cases_eq i k) [
+        | inl same ↦ subst (λ (j : ℕ). slice_index new.list j ≡ slice_index words (from + j)) (sym same)
+            (here.here ∙ is)
+        | inr other ↦ here.others (suc i) (λ e. other (omega arith)) ∙ puts.first i (omega arith)
+      ];
+      after = λ i from_next. here.others (suc i) (λ e. omega arith) ∙ puts.after i (omega arith);
+    }

@@ -16,6 +16,7 @@ pub mod Given
 pub mod Begun
 pub mod Gathered
 pub mod Paired
+pub mod InUse
 pub mod Closed
 pub mod Loaded
 pub mod Empty

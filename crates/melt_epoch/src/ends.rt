@@ -1,12 +1,12 @@
 //! How an epoch begins and ends: its words are laid out from the parts of a heap and each mutator gets a seat; in the
 //! end all seats are taken back, and the words are put where they came from.
-ghost use Rattle.std.specs.Prelude.{◌≡◌, ◌+◌, ◌^◌, ◌<◌, ◌≤◌, length, map, take, drop, All, IfOk, OnErr};
+ghost use Rattle.std.specs.Prelude.{◌≡◌, ◌+◌, ◌^◌, ◌<◌, ◌≤◌, length, map, All, IfOk, OnErr};
 ghost use Rattle.melt_rule.specs.Rule.{first_view};
 ghost use Rattle.melt_rule.specs.Seats.{IsSeat, MayGoOn, Sits, knows_of};
 ghost use Rattle.melt_rule.specs.declared.began.Start.{Start};
 ghost use Rattle.melt_epoch.specs.Ends.{HasEnded, HasJoined, HeapBegins, HistoryBegins, MayEnd, MutatorsBegin};
 ghost use Rattle.melt_epoch.specs.Ends.{unseated, view_of};
-ghost use Rattle.melt_epoch.specs.Gathering.{IsGiven, PutsBack, gathered_all, words_of_heap};
+ghost use Rattle.melt_epoch.specs.Gathering.{IsGiven, PutsBack, PutsFirst, gathered_all, words_of_heap};
 ghost use Rattle.melt_epoch.specs.Mutators.{HasReader};
 
 use crate::epoch::Epoch;
@@ -31,18 +31,19 @@ fn lay_out(alloc: Global, heap: &Heap) -> Result<Vec<u64>, NoMemory>
     Ok(words)
 }
 
-/// Copies the words from a place on into a space, as many as that has.
-fn put_words(ended: &EndedWords, from: usize, space: &mut Space)
-    requires words { from + length space.old.list ≤ length ended.now }
+/// Copies the words from a place on into the first ones of a space, so many of them.
+fn put_words(ended: &EndedWords, from: usize, count: u32, space: &mut Space)
+    requires words { from + count ≤ length ended.now }
     requires place { from < 2 ^ 62 }
-    ensures { space.new ≡ record space.old { list = take (length space.old.list) (drop from ended.now) } }
+    requires fits { count ≤ length space.old.list }
+    ensures { PutsFirst space.old space.new ended.now from count }
 {
-    for k in 0..space.words() {
+    for k in 0..count {
         space.set_word(k + 1, ended.word(from + k as usize));
     }
 }
 
-/// Puts the words of an epoch that has ended back into the heap from which they came.
+/// Puts the words of an epoch that has ended back into the heap from which they came: of its space, those in use.
 fn put_back(ended: &EndedWords, heap: &mut Heap)
     requires { length ended.now ≡ 16 + length heap.old.globals + length heap.old.forward + length heap.old.space.list }
     ensures { PutsBack heap.old heap.new ended.now }
@@ -51,10 +52,11 @@ fn put_back(ended: &EndedWords, heap: &mut Heap)
     let space_at = forwards_at + heap.forward.items.len();
     ended.copy(GLOBALS_AT, &mut heap.globals.items);
     ended.copy(forwards_at, &mut heap.forward.items);
-    put_words(ended, space_at, &mut heap.space);
     let size = heap.space.words();
-    let used = ended.word(FREE_AT).saturating_sub(1).min(size as u64);
-    heap.space.set_used(used as u32);
+    // A claim that ended past the last word moved the first free place there.
+    let used = ended.word(FREE_AT).saturating_sub(1).min(size as u64) as u32;
+    put_words(ended, space_at, used, &mut heap.space);
+    heap.space.set_used(used);
 }
 
 /// Gives each mutator a seat: the first has the first one, from which those of the others come.
