@@ -17,6 +17,7 @@ use Rattle.melt_move.specs.Planned.{plan_after}
 use Rattle.melt_move.specs.Plans.{WantsHome}
 use Rattle.melt_core.specs.Made.{HasMade}
 use Rattle.melt_core.specs.Views.{View, maps, state, value, Standing, IsQuiet}
+use Rattle.melt_safepoint.specs.Bits.{BitsAfter, TakesAway}
 use Rattle.melt_safepoint.specs.Shown.{Shown, Underlies}
 use Rattle.melt_safepoint.specs.Tables.{Renewed}
 use Rattle.melt_safepoint.specs.declared.collector.Collector.{Collector}
@@ -53,8 +54,8 @@ pub record Gathers (v : View) (entry : Journal) : Type 0 where
   pub fits : alive + 1 ≤ entry.live + entry.end
 
 -- What a collection of the phase did, over a disk that is seen as it was left: all stands as before, and the same homes
--- are free. A Move leaves each object stale that no register holds; and it leaves nothing but held objects, where all
--- others were stale.
+-- are free. Stale bits are as the phase leaves them, and which objects were taken away is told. A Move leaves each
+-- object stale that no register holds; and it leaves nothing but held objects, where all others were stale.
 pub record CollectedOver (told : Bool) (phase : Phase) (later : Shown) (free : List ℕ) (v w : View) (entry : Journal)
     : Type 0 where
   pub disk : OnDisk
@@ -62,6 +63,8 @@ pub record CollectedOver (told : Bool) (phase : Phase) (later : Shown) (free : L
   pub same_free : disk.free_homes ≡ free
   pub renewed : Renewed told disk v w
   pub gathers : told ≡ true → Gathers v entry
+  pub bits : told ≡ true → BitsAfter phase v w
+  pub takes : told ≡ true → TakesAway phase v w entry
   pub marked : told ≡ true → phase ≡ Move → AllMarked w
   pub tight : told ≡ true → phase ≡ Move → AllMarked v → entry.live ≡ entry.held
 

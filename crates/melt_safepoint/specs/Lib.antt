@@ -1,5 +1,6 @@
 pub mod Asked
 pub mod Begun
+pub mod Bits
 pub mod Collections
 pub mod Counts
 pub mod Cuts
