@@ -19,6 +19,7 @@ use Rattle.melt_model.specs.declared.reports.Journal.{Journal}
 use Rattle.melt_scion.specs.State.{State}
 use Rattle.melt_scion.specs.Placed.{Maps, IsNamed, Formed, Tells, Placed, value_at}
 use Rattle.melt_scion.specs.Collected.{Collected, CountsWords, HeldAt}
+use Rattle.melt_scion.specs.Moves.{Leaves}
 use Rattle.melt_scion.specs.GhostMaps.{NamePairs}
 use Rattle.melt_scion.specs.Heaps.{OnDisk, Shows, HasNames, HasMaps, KeepsTables, TablesMade, IsSettled}
 use Rattle.melt_scion.specs.Heaps.{register_in, state_of}
@@ -29,7 +30,7 @@ use Rattle.melt_scion.proofs.Tables.{scions_kept}
 use Rattle.melt_scion.proofs.Starting.{settled_gaps}
 use Rattle.melt_scion.proofs.Numbered.{counts_numbers}
 use Rattle.melt_scion.proofs.Moving.{Collection, collection, held_stays}
-use Rattle.melt_move.specs.Collecting.{IsFormedOn}
+use Rattle.melt_move.specs.Collecting.{IsFormedOn, Counts as CountsEach}
 use Rattle.melt_core.specs.declared.call.Call.{Call}
 use Rattle.melt_core.specs.Views.{View, maps, maps_of, state, value, values_of, registers_in}
 use Rattle.melt_core.specs.Views.{call_of, claimed, claimed_in, InUse, Bounded, Counts, Standing, IsQuiet}
@@ -219,6 +220,7 @@ pub record WasCollected (phase : Phase) (m : Maps) (disk : OnDisk) (heap new : H
   pub collected : Collected phase m after (state_of heap held disk) (state_of new registers later) to home scion
   pub live : CountsWords (state_of new registers later) (IsNamed after) journal.live
   pub held_words : CountsWords (state_of heap held disk) (HeldAt (state_of heap held disk)) journal.held
+  pub bodies : CountsEach (Leaves phase (state_of heap held disk)) journal.bodies
   pub used : journal.live ≡ new.space.used
   pub of_phase : journal.phase ≡ phase
   pub tables : KeepsTables heap new

@@ -1,12 +1,13 @@
 -- What is said of a collection after an epoch that ended is said of the view in which it ended.
 use Rattle.std.proofs.Common.{◌≡◌, ℕ, ◌≤◌, zero, suc, List, get_or, length, refl, sym, ◌∙◌, ap, subst, Bool}
-use Rattle.std.proofs.Common.{false}
-use Rattle.std.specs.Prelude.{Option}
+use Rattle.std.proofs.Common.{false, true}
+use Rattle.std.specs.Prelude.{Option, Some}
 use Rattle.melt_model.specs.Alive.{Alive, Held, words_of, CostsSum}
 use Rattle.melt_model.specs.declared.history.Entry.{Entry}
 use Rattle.melt_model.specs.declared.history.Value.{Value}
 use Rattle.melt_model.specs.declared.reports.Journal.{Journal}
 use Rattle.melt_model.specs.declared.reports.Phase.{Phase}
+use Rattle.melt_model.specs.declared.reports.Phase.TheVariants.{Inactive, Mark, Move}
 use Rattle.melt_disk.specs.declared.space.DiskFull as disk_full
 use Rattle.melt_space.specs.Space.{SpaceWords, word_at}
 use Rattle.melt_scion.specs.Heaps.{OnDisk, register_in}
@@ -15,7 +16,10 @@ use Rattle.melt_scion.specs.declared.heap.Names as name_table
 use Rattle.melt_scion.specs.declared.registers.Registers.{Registers}
 use Rattle.melt_move.specs.Planned.{plan_after}
 use Rattle.melt_core.specs.Epochs.{HasFinished}
-use Rattle.melt_core.specs.Views.{View, held_values, maps_of, registers_in, value, values_of, IsQuiet, Standing}
+use Rattle.melt_core.specs.StaleBits.{BitIs, sight}
+use Rattle.melt_core.specs.Views.{View, held_values, maps_of, registers_in, value, values_of, InUse, IsQuiet}
+use Rattle.melt_core.specs.Views.{Standing}
+use Rattle.melt_safepoint.specs.Bits.{BitsAfter, BitsAreSet, TakesAway}
 use Rattle.melt_safepoint.specs.Collections.{CollectedOver, CollectsCore, FullOver, Gathers, IsFullCore, AllMarked}
 use Rattle.melt_safepoint.specs.Collections.{MayCollect}
 use Rattle.melt_safepoint.specs.Shown.{Shown}
@@ -44,6 +48,17 @@ finished_marked v x finished marked a header named starts lone =
       holds = ap (λ (held : List Registers). register_in held holds.thread holds.register) finished.held ∙ holds.holds;
     }))
 
+-- where words and names are the same, so are stale bits
+same_bit : (v x : View) → x.space.list ≡ v.space.list → x.names ≡ v.names → (n : ℕ) (stale : Bool)
+    → BitIs (sight x) n stale → BitIs (sight v) n stale
+same_bit v x words names n stale bit = record {
+  address = bit.address;
+  named = subst (λ (all : Option name_table.Names). (maps_of all).address bit.address ≡ Some n) names bit.named;
+  shape = bit.shape;
+  small = bit.small;
+  word = sym (same_word v.space x.space bit.address words) ∙ bit.word;
+}
+
 -- an epoch that ends changes no value of a register
 pub finished_values : (v x : View) → HasFinished v x → (t : ℕ) → values_of x t ≡ values_of v t
 finished_values v x finished t =
@@ -61,6 +76,48 @@ gathers_same v w entry log same is = record {
       subst (λ (h : List Entry). CostsSum (words_of h) (Alive h (value v)) is.alive) log
       (subst (λ (f : ℕ → ℕ → Value). CostsSum (words_of w.log) (Alive w.log f) is.alive) same is.reach);
   fits = is.fits;
+}
+
+-- bits that are set by what registers hold
+finished_set : (v x w : View) → value x ≡ value v → BitsAreSet x w → BitsAreSet v w
+finished_set v x w same bits = record {
+  stale = λ n bit held. bits.stale n bit (subst (λ (f : ℕ → ℕ → Value). Held f n) (sym same) held);
+  fresh = λ n bit. subst (λ (f : ℕ → ℕ → Value). Held f n) same (bits.fresh n bit);
+}
+
+-- what a collection after an epoch leaves of stale bits, it leaves of those that the epoch left
+finished_bits : (phase : Phase) (v x w : View) → HasFinished v x → value x ≡ value v → BitsAfter phase x w
+    → BitsAfter phase v w
+finished_bits Inactive v x w finished same bits = record {
+  stale = λ n bit. same_bit v x finished.words finished.names n true (bits.stale n bit);
+  fresh = λ n bit. same_bit v x finished.words finished.names n false (bits.fresh n bit);
+}
+finished_bits Mark v x w finished same bits = finished_set v x w same bits
+finished_bits Move v x w finished same bits = finished_set v x w same bits
+
+-- and it takes away the same objects
+finished_takes : (phase : Phase) (v x w : View) (entry : Journal) → HasFinished v x → value x ≡ value v
+    → TakesAway phase x w entry → TakesAway phase v w entry
+finished_takes phase v x w entry finished same takes = record {
+  taken = takes.taken;
+  once = takes.once;
+  counts = takes.counts;
+  only_move = takes.only_move;
+  each = λ n has. let is = takes.each n has in record {
+    stale = same_bit v x finished.words finished.names n true is.stale;
+    unheld = λ held. is.unheld (subst (λ (f : ℕ → ℕ → Value). Held f n) (sym same) held);
+    gone = is.gone;
+  };
+  leaves = λ n move in_use bit.
+      subst (λ (f : ℕ → ℕ → Value). Held f n) same
+      (takes.leaves n move in_use (same_bit x v (sym finished.words) (sym finished.names) n true bit));
+  others = λ n in_use alive.
+      takes.others n
+      (subst (λ (all : Option name_table.Names). InUse (maps_of all) n) (sym finished.names) in_use)
+      (subst (λ (h : List Entry). Alive h (value x) n) (sym finished.log)
+      (subst (λ (f : ℕ → ℕ → Value). Alive v.log f n) (sym same) alive));
+  none_new = λ n in_use.
+      subst (λ (all : Option name_table.Names). InUse (maps_of all) n) finished.names (takes.none_new n in_use);
 }
 
 module _ (v x : View) (finished : HasFinished v x)
@@ -119,6 +176,8 @@ module _ (v x : View) (finished : HasFinished v x)
               same_free = over.same_free;
               renewed = finished_renewed told over.disk w over.renewed;
               gathers = λ tells. gathers_same v x c.entry finished.log same (over.gathers tells);
+              bits = λ tells. finished_bits phase v x w finished same (over.bits tells);
+              takes = λ tells. finished_takes phase v x w c.entry finished same (over.takes tells);
               marked = over.marked;
               tight = λ tells move marked. over.tight tells move (finished_marked v x finished marked);
             };

@@ -31,6 +31,7 @@ use Rattle.melt_safepoint.specs.Resting.{rest_view}
 use Rattle.melt_safepoint.specs.Shown.{Shown, Underlies}
 use Rattle.melt_safepoint.specs.Tables.{Renewed}
 use Rattle.melt_safepoint.specs.declared.collector.Collector.{Collector}
+use Rattle.melt_safepoint.proofs.Bits.{bits_after, takes_away}
 use Rattle.melt_safepoint.proofs.Collecting.{RestsOver, placed_told, formed_now, maps_after, in_use_costs, rest_formed}
 use Rattle.melt_safepoint.proofs.PlannedRest.{Carried, SameThreads, carried, planned_over, leaves_heap}
 use Rattle.melt_safepoint.proofs.Tightening.{held_part, move_tight, move_marks}
@@ -273,6 +274,12 @@ module _ (phase : Phase) (shown later : Shown) (heap new : Heap) (b : Beside) (n
         same_free = refl;
         renewed = renewed_by heap b names registers rests c.size c.globals c.forwards made.threads.threads c.values;
         gathers = made_gathers told free seen;
+        bits = λ tells.
+            bits_after told phase seen.disk heap new b names registers later.end later.image entry
+            (made_rests told free seen) c tells;
+        takes = λ tells.
+            takes_away told phase seen.disk heap new b names registers later.end later.image entry
+            (made_rests told free seen) c tells;
         marked = λ tells move.
             move_marks told seen.disk heap new b names registers later.end later.image entry
             (made_rests told free seen) (moved move);

@@ -1,5 +1,6 @@
 pub mod Asked
 pub mod AtSafepoint
+pub mod Bits
 pub mod Collected
 pub mod Collecting
 pub mod Collections
@@ -9,6 +10,7 @@ pub mod Cuts
 pub mod Closing
 pub mod Epochs
 pub mod Finishing
+pub mod Found
 pub mod Gathering
 pub mod Gone
 pub mod Halting

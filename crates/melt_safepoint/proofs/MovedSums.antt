@@ -30,7 +30,7 @@ differ to x (y ∷ xs) apart one = (
 )
 
 -- and so do all of a list
-distinct : (to : ℕ → ℕ) (xs : List ℕ) → IsDistinct (λ a b. a == b) xs
+pub distinct : (to : ℕ → ℕ) (xs : List ℕ) → IsDistinct (λ a b. a == b) xs
     → ((a b : ℕ) → Contains xs a → Contains xs b → to a ≡ to b → a ≡ b) → IsDistinct (λ a b. a == b) (map to xs)
 unfolding IsDistinct
 distinct to [] once one = tt
@@ -40,7 +40,7 @@ distinct to (x ∷ xs) once one = (
 )
 
 -- an old address in the list has its new one in the other
-moved_there : (to : ℕ → ℕ) (xs : List ℕ) (a : ℕ) → Contains xs a → Contains (map to xs) (to a)
+pub moved_there : (to : ℕ → ℕ) (xs : List ℕ) (a : ℕ) → Contains xs a → Contains (map to xs) (to a)
 moved_there to [] a (k, below, is) = absurd (omega arith)
 moved_there to (x ∷ xs) a has = elim (contains_cases x a xs has) [
   | inl same ↦ subst (λ (y : ℕ). Contains (to x ∷ map to xs) (to y)) same (contains_here (to x) (map to xs))
@@ -48,7 +48,7 @@ moved_there to (x ∷ xs) a has = elim (contains_cases x a xs has) [
 ]
 
 -- and a new address is that of an old one
-moved_from : (to : ℕ → ℕ) (xs : List ℕ) (b : ℕ) → Contains (map to xs) b → (a : ℕ) × Contains xs a × (to a ≡ b)
+pub moved_from : (to : ℕ → ℕ) (xs : List ℕ) (b : ℕ) → Contains (map to xs) b → (a : ℕ) × Contains xs a × (to a ≡ b)
 moved_from to [] b (k, below, is) = absurd (omega arith)
 moved_from to (x ∷ xs) b has = elim (contains_cases (to x) b (map to xs) has) [
   | inl same ↦ (x, contains_here x xs, same)

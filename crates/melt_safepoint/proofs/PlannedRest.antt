@@ -1,8 +1,9 @@
 -- A planned collection between two epochs: what stood for the history over the disk before it stands for that over the
 -- disk after it, told or not.
-use Rattle.std.proofs.Common.{◌≡◌, ℕ, ◌+◌, ◌≤◌, List, length, inl, inr, refl, sym, ◌∙◌, ap, subst, arith, Bool}
+use Rattle.std.proofs.Common.{◌≡◌, ℕ, ◌+◌, ◌≤◌, List, [], length, inl, inr, refl, sym, ◌∙◌, ap, subst, arith, Bool}
 use Rattle.std.proofs.Common.{true}
 use Rattle.std.specs.Prelude.{◌/◌, All, Option, None, Some}
+use Rattle.std.specs.List.{IsDistinct}
 use Rattle.melt_model.specs.declared.reports.Phase.{Phase}
 use Rattle.melt_model.specs.declared.reports.Phase.TheVariants.{Inactive, Mark, Move}
 use Rattle.melt_model.specs.declared.reports.Journal.{Journal}
@@ -15,15 +16,27 @@ use Rattle.melt_scion.specs.Heaps.{register_in, state_of}
 use Rattle.melt_scion.specs.declared.heap.Names as name_table
 use Rattle.melt_scion.specs.declared.heap.Heap.{Heap}
 use Rattle.melt_scion.specs.declared.registers.Registers.{Registers}
+use Rattle.melt_scion.specs.Moves.{Leaves}
+use Rattle.melt_scion.proofs.Numbers.{contains_none}
 use Rattle.melt_copy.specs.Copying.{HasCollected}
 use Rattle.melt_copy.specs.Settling.{with_image, HasKept, SettlesBelow}
-use Rattle.melt_move.specs.Collecting.{HasMoved, Moves}
+use Rattle.melt_move.specs.Collecting.{Counts as CountsEach, HasMoved, Moves}
 use Rattle.melt_move.specs.Planned.{Settles, CopiesIn, CollectsIn, CollectsPlanned}
 use Rattle.melt_core.specs.Views.{View, maps_of, values_of, Bounded, Counts}
 use Rattle.melt_safepoint.specs.Resting.{Beside, LeavesHeap, NamesHeap, with_names_held, rest_view}
 use Rattle.melt_safepoint.proofs.Collecting.{InUseOf, RestsOver, StandsFor, WasCollected, tables_made, formed_now}
 use Rattle.melt_safepoint.proofs.Collecting.{values_now, placed_told, rests_for, values_for, collected_for}
 use Rattle.melt_safepoint.proofs.Collecting.{same_maps, same_sizes}
+
+-- what is nothing counts as none
+counts_none : (Is : ℕ → Type 0) {count : ℕ} → ((a : ℕ) → Is a → ⊥) → count ≡ 0 → CountsEach Is count
+unfolding IsDistinct
+counts_none Is none count = record {
+  members = [];
+  once = tt;
+  all = λ a. (λ is. absurd (none a is), λ has. absurd (contains_none a has));
+  count_is = count;
+}
 
 -- names are for as many addresses as they are
 same_room : (names : Option name_table.Names) → KeepsNames names names
@@ -139,6 +152,7 @@ module _ (told : Bool) (disk : OnDisk) (mid new : Heap) (b : Beside) (registers 
         collected = has.collected;
         live = has.live;
         held_words = has.held_words;
+        bodies = has.bodies;
         used = moves.journal_is.live_words;
         of_phase = moves.journal_is.of_phase;
         tables = moves.tables;
@@ -146,10 +160,10 @@ module _ (told : Bool) (disk : OnDisk) (mid new : Heap) (b : Beside) (registers 
       }
 
   -- or it was copied, over the same disk
-  was_copied : (phase : Phase)
+  was_copied : (phase : Phase) → ((a : ℕ) → Leaves phase (state_of mid b.held disk) a → ⊥)
       → CopiesIn phase mid new b.held registers end end_after image image_after journal
       → WasCollected phase (maps_of b.names) disk mid new b.held registers end_after image_after journal
-  was_copied phase copies =
+  was_copied phase stays copies =
       let has : HasCollected (maps_of b.names) disk mid new b.held registers phase journal =
       copies.collects.each (maps_of b.names) disk rests.names.has
       (formed_now told disk (rest_view mid b) rests.stands) in
@@ -165,6 +179,7 @@ module _ (told : Bool) (disk : OnDisk) (mid new : Heap) (b : Beside) (registers 
         collected = has.collected;
         live = has.live;
         held_words = has.held_words;
+        bodies = counts_none (Leaves phase (state_of mid b.held disk)) stays has.journals.no_bodies;
         used = has.journals.live_words;
         of_phase = has.journals.of_phase;
         tables = copies.collects.tables;
@@ -175,8 +190,8 @@ module _ (told : Bool) (disk : OnDisk) (mid new : Heap) (b : Beside) (registers 
   was_collected : (phase : Phase)
       → CollectsIn phase mid new b.held registers end end_after image image_after journal
       → WasCollected phase (maps_of b.names) disk mid new b.held registers end_after image_after journal
-  was_collected Inactive collects = was_copied Inactive collects
-  was_collected Mark collects = was_copied Mark collects
+  was_collected Inactive collects = was_copied Inactive (λ a leaves. leaves) collects
+  was_collected Mark collects = was_copied Mark (λ a leaves. leaves) collects
   was_collected Move collects = was_moved collects
 
 -- with other numbers of Stubs and another end in the journal
@@ -197,6 +212,7 @@ renumbered b stubs end was = record {
   collected = was.collected;
   live = was.live;
   held_words = was.held_words;
+  bodies = was.bodies;
   used = was.used;
   of_phase = was.of_phase;
   tables = was.tables;
