@@ -1,15 +1,13 @@
 -- Which stale bits a planned collection leaves, and which objects it takes away.
-use Rattle.std.proofs.Common.{◌≡◌, ◌≢◌, ◌⊎◌, ℕ, ◌≤◌, List, [], ◌∷◌, length, inl, inr, refl, sym, ◌∙◌, ap, subst, arith}
+use Rattle.std.proofs.Common.{◌≡◌, ◌≢◌, ◌⊎◌, ℕ, List, [], ◌∷◌, inl, inr, refl, sym, ◌∙◌, ap, subst}
 use Rattle.std.proofs.Common.{Bool, true, false}
 use Rattle.std.proofs.Math.ListN.{length-map}
 use Rattle.std.specs.Prelude.{◌↔◌, Contains, Option, Some, map, unwrap_or}
 use Rattle.melt_model.specs.Alive.{Alive, Held}
-use Rattle.melt_model.specs.declared.history.Entry.{Entry}
-use Rattle.melt_model.specs.declared.history.Value.{Value}
 use Rattle.melt_model.specs.declared.reports.Journal.{Journal}
 use Rattle.melt_model.specs.declared.reports.Phase.{Phase}
 use Rattle.melt_model.specs.declared.reports.Phase.TheVariants.{Inactive, Mark, Move}
-use Rattle.melt_word.specs.Words.{IsShape, header_word}
+use Rattle.melt_word.specs.Words.{header_word}
 use Rattle.melt_word.specs.declared.header.Header.{Header}
 use Rattle.melt_scion.specs.State.{State, HeaderAt, ObjectAt, HoldsAt, Reached}
 use Rattle.melt_scion.specs.Placed.{Maps, Placed, value_at}
