@@ -30,9 +30,9 @@ pub record IsTakenAway (v w : View) (n : ℕ) : Type 0 where
   pub unheld : Held (value v) n → ⊥
   pub gone : InUse (maps w) n → ⊥
 
--- The objects that a collection of the phase takes away, as many as the journal has Bodies: none, but in a Move. Such
--- a one leaves no object that had the stale bit and that no register holds. What is alive and was in use is in use
--- still or was taken away, and nothing else comes into use.
+-- The objects that a collection of the phase takes away, as many as the journal has Bodies: none, but in a Move. What
+-- a Move leaves of the objects that had the stale bit is held by registers. What was in use and is alive is in use still
+-- or was taken away, and nothing comes into use.
 pub record TakesAway (phase : Phase) (v w : View) (entry : Journal) : Type 0 where
   pub taken : List ℕ
   pub once : IsDistinct (λ a b. a == b) taken
