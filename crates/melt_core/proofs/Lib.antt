@@ -27,6 +27,7 @@ pub mod Tasks
 pub mod Unread
 pub mod Registers
 pub mod Objects
+pub mod Looks
 pub mod Answered
 pub mod Reading
 pub mod Loading

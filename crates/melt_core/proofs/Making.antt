@@ -56,6 +56,7 @@ use Rattle.melt_core.proofs.Staying.{hold_stays}
 use Rattle.melt_core.proofs.Registers.{register_keeps, register_other, registers_other, threads_set, values_set}
 use Rattle.melt_core.proofs.Values.{held_is, named_value}
 use Rattle.melt_core.proofs.Going.{goes}
+use Rattle.melt_core.proofs.Looks.{lacking_looks}
 use Rattle.melt_core.proofs.Retaining.{others_apart}
 use Rattle.melt_core.proofs.Storing.{Storing, none_stored, store_advances, stored_more}
 use Rattle.melt_core.proofs.Plain.{as_told}
@@ -376,6 +377,7 @@ lack_advances disk v t need o asks lacks =
       call = call_here v (with_call (stopped v) t None) t None refl (inside disk v t o asks);
       own = record { history = refl; registers = refl; values = refl };
       stop = refl;
+      looks = lacking_looks disk v t o need asks lacks;
     })
 
 -- the view after the publication of an object

@@ -31,6 +31,7 @@ use Rattle.melt_core.specs.Views.{View, Standing, maps, state, rest_of, stage_of
 use Rattle.melt_core.proofs.Asked.{inside, known_at, known_so}
 use Rattle.melt_core.proofs.Distinct.{few_distinct}
 use Rattle.melt_core.proofs.Going.{go_advances}
+use Rattle.melt_core.proofs.Looks.{searching_looks}
 use Rattle.melt_core.proofs.Refusing.{pause_advances}
 use Rattle.melt_core.proofs.Retaining.{still_retains}
 use Rattle.melt_core.proofs.Standing.{call_here}
@@ -282,4 +283,5 @@ full_advances disk v t o search asks searches all =
       call = call_here v (with_call (stopped v) t None) t None refl (inside disk v t o asks);
       own = record { history = refl; registers = refl; values = refl };
       stop = refl;
+      looks = searching_looks disk v t o search asks searches;
     })

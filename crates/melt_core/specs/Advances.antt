@@ -28,7 +28,7 @@ use Rattle.melt_core.specs.declared.call.Call.{Call}
 use Rattle.melt_core.specs.Answering.{Answers, with_entry}
 use Rattle.melt_core.specs.Known.{Evolves, IsPlace, IsTagged, word_in}
 use Rattle.melt_core.specs.Stages.{LoadsAt, Applies, change_of, cleared_by, Next, MustPause, events_left, reads_left}
-use Rattle.melt_core.specs.Stages.{Lacks, SearchesOn, ReadsAt}
+use Rattle.melt_core.specs.Stages.{Lacks, LooksAtStop, SearchesOn, ReadsAt}
 use Rattle.melt_core.specs.Changed.{HasRoomForEntry, with_stage}
 use Rattle.melt_core.specs.Made.{KeepsMade}
 use Rattle.melt_core.specs.Views.{View, maps, state, values_of, value, registers_in, call_of, stage_of, rest_of}
@@ -136,22 +136,24 @@ pub record IsAnswered (disk : OnDisk) (v w : View) (t : ℕ) (o : Op) (reply : R
   pub stop : w.stop ≡ v.stop
   pub room : Standing true disk v → HasRoomFor disk.end v o
 
--- the call of the thread is refused, as the stop word is set; nothing changes
+-- The call of the thread is refused, as the stop word is set, at which the operation looks; nothing changes.
 pub record IsAsked (v w : View) (t : ℕ) (o : Op) : Type 0 where
   pub first : call_of v t ≡ None
   pub pauses : MustPause (length v.forward) (register_in v.held t) v.stop o None
+  pub looks : LooksAtStop (value v t) o
   pub same : w ≡ v
 
 -- The call of the thread is refused, as the words that it claimed end past the last word of the heap; the stop word is
--- set.
+-- set. It had looked at that word.
 pub record IsRefused (v w : View) (t : ℕ) (o : Op) (need : ℕ) : Type 0 where
   pub lacks : Lacks (stage_of v t) need
   pub call : call_of w t ≡ None
   pub own : KeepsOwn v w t
   pub stop : w.stop ≡ true
+  pub looks : LooksAtStop (value v t) o
 
 -- The call of the thread is refused, as each forwarding word sends another home than that for which it searches; the
--- stop word is set.
+-- stop word is set. It had looked at that word too.
 pub record IsFull (v w : View) (t : ℕ) (o : Op) : Type 0 where
   pub search : Search
   pub searches : SearchesOn (stage_of v t) search
@@ -160,6 +162,7 @@ pub record IsFull (v w : View) (t : ℕ) (o : Op) : Type 0 where
   pub call : call_of w t ≡ None
   pub own : KeepsOwn v w t
   pub stop : w.stop ≡ true
+  pub looks : LooksAtStop (value v t) o
 
 abbrev pub Pauses : View → View → ℕ → Op → Pause → Type 0
 Pauses v w t o Asked = IsAsked v w t o

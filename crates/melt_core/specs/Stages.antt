@@ -2,6 +2,8 @@
 -- its events changes, and which stage comes next.
 use Rattle.std.specs.Prelude.{◌≡◌, ◌≢◌, ℕ, ◌+◌, ◌*◌, ◌-◌, ◌<◌, ◌≤◌, ◌==◌}
 use Rattle.std.specs.Prelude.{if◌then◌else◌, Bool, true, false, List, Option, None, Some, ◌⊎◌}
+use Rattle.melt_model.specs.declared.history.Value.{Value}
+use Rattle.melt_model.specs.declared.history.Value.TheVariants.{Nil}
 use Rattle.melt_model.specs.declared.operations.Op.{Op}
 use Rattle.melt_model.specs.declared.operations.Op.TheVariants as op
 use Rattle.melt_word.specs.Words.{ref_word, header_word, cost_of}
@@ -44,6 +46,22 @@ task_of (op.Same a b) = None
 task_of (op.Copy dst src) = None
 task_of (op.Drop r) = None
 task_of op.Collect = None
+
+-- The operation looks at the stop word, by what the registers of its thread stand for. One on a part of an object does
+-- where its register holds one, and is answered at once where not. Those on registers alone never do, and a collection
+-- is no call.
+abbrev pub LooksAtStop : (ℕ → Value) → Op → Type 0
+LooksAtStop value (op.New dst refs nums) = Unit {0}
+LooksAtStop value (op.Load dst src i) = value src ≢ Nil
+LooksAtStop value (op.Store obj i src) = value obj ≢ Nil
+LooksAtStop value (op.Get src j) = value src ≢ Nil
+LooksAtStop value (op.Put obj j v) = value obj ≢ Nil
+LooksAtStop value (op.GLoad dst g) = Unit {0}
+LooksAtStop value (op.GStore g src) = Unit {0}
+LooksAtStop value (op.Same a b) = ⊥
+LooksAtStop value (op.Copy dst src) = ⊥
+LooksAtStop value (op.Drop r) = ⊥
+LooksAtStop value op.Collect = ⊥
 
 -- the part that is used is one of an object of the shape
 abbrev pub HasPart : Access → Shape → Type 0
