@@ -1,11 +1,11 @@
 -- The answers of calls that claim no words, by what their steps told.
-use Rattle.std.proofs.Common.{◌≡◌, ℕ, ◌≤◌, true, false, List, [], ◌∷◌, ◌++◌, length, length-append}
+use Rattle.std.proofs.Common.{◌≡◌, ◌≢◌, ℕ, ◌≤◌, true, false, List, [], ◌∷◌, ◌++◌, length, length-append}
 use Rattle.std.proofs.Common.{Ok, Err, refl, sym, ◌∙◌, ap, subst, arith, inl, inr}
 use Rattle.std.proofs.lemmas.List.{append_cancel_right}
 use Rattle.std.specs.Prelude.{None, Some}
 use Rattle.atomic_table.specs.declared.shared.Seat.{Seat}
 use Rattle.melt_model.specs.History.{shape}
-use Rattle.melt_model.specs.Thread.{own}
+use Rattle.melt_model.specs.Thread.{own, value_in}
 use Rattle.melt_model.specs.declared.history.Act.{Act}
 use Rattle.melt_model.specs.declared.history.Entry.{Entry}
 use Rattle.melt_model.specs.declared.history.Value.{Value}
@@ -16,6 +16,7 @@ use Rattle.melt_model.specs.declared.operations.Reply.TheVariants as reply
 use Rattle.melt_word.specs.declared.header.Shape as word
 use Rattle.melt_core.proofs.Answers.{HoldsNil, LacksPart, nil_answers, range_answers, shape_of}
 use Rattle.melt_core.specs.Answering.{Answers, entry}
+use Rattle.melt_core.specs.Stages.{LooksAtStop}
 use Rattle.melt_core.specs.declared.answer.Pause.TheVariants.{Asked}
 use Rattle.melt_core.specs.declared.answer.Refusal.TheVariants.{Pause}
 use Rattle.melt_rule.specs.Rule.{Has}
@@ -36,6 +37,12 @@ pub held_object : (words : EpochWords) (seat : Seat ℕ View) (address : ℕ) (v
     → (n : ℕ) × (value ≡ Ref n) × Has (knows_of seat).known address n
 held_object words seat address value idle (inl none) some_ = absurd (some_ none.0)
 held_object words seat address value idle (inr object) some_ = object
+
+pub held_some : (words : EpochWords) (seat : Seat ℕ View) (address : ℕ) (value : Value) → IsIdle words seat
+    → Names (knows_of seat).known address value → (address ≡ 0 → ⊥) → value ≢ Nil
+held_some words seat address value idle names some_ nothing =
+    let object = held_object words seat address value idle names some_ in
+    let wrong : Ref object.0 ≡ Nil = sym object.1 ∙ nothing in absurd (cc)
 
 pub held_nothing : (words : EpochWords) (seat : Seat ℕ View) (address : ℕ) (value : Value) → IsIdle words seat
     → Names (knows_of seat).known address value → address ≡ 0 → value ≡ Nil
@@ -83,6 +90,7 @@ nil_plain v rs o most sound nothing =
       comes = way_replies rs o reply.Nil way (λ told. nil_answers v.thread o nothing refl refl refl);
       counts = counts_most v v 0 0 0 most (omega arith) way.counts;
       refused = tt;
+      looks = tt;
     }
 
 pub asked_counts : (v w : View) → w ≡ record (view_after v w.seen v.known None) { stopped = true } → Counts v w 0 0 1
@@ -104,11 +112,12 @@ asked_counts v w is = record {
 
 -- the stop word was set
 pub asked_plain : (v w : View) (rs : List Value) (o : Op) (most : ℕ) → 1 ≤ most → Polls v w true
-    → Plain v w rs rs o most (Err (Pause Asked))
-asked_plain v w rs o most some_ polls = record {
+    → LooksAtStop (value_in rs) o → Plain v w rs rs o most (Err (Pause Asked))
+asked_plain v w rs o most some_ polls looks = record {
   comes = (polls.0, refl);
   counts = counts_most v w 0 0 1 most some_ (asked_counts v w polls.1);
   refused = (refl, polls);
+  looks = looks;
 }
 
 pub asked_idle : (words : EpochWords) (v : View) (seat : Seat ℕ View) → IsSeat words seat → Polls v (knows_of seat) true
@@ -137,6 +146,7 @@ range_plain {v} {w} {u} rs o most {address} {n} {z} many sound polls heads lacks
           refl);
       counts = counts_most v u 0 0 2 most many way.counts;
       refused = tt;
+      looks = tt;
     }
 
 pub headed_idle : {words : EpochWords} {v w : View} {seat : Seat ℕ View} {address n : ℕ} {z : word.Shape}

@@ -3,7 +3,7 @@ use Rattle.std.specs.Prelude.{◌≡◌, ◌⊎◌, ℕ, ◌+◌, ◌<◌, ◌�
 use Rattle.std.specs.Prelude.{Result, Ok, Err, IfErr}
 use Rattle.atomic_table.specs.declared.shared.Seat.{Seat}
 use Rattle.melt_model.specs.History.{Legal, made}
-use Rattle.melt_model.specs.Thread.{own}
+use Rattle.melt_model.specs.Thread.{own, value_in}
 use Rattle.melt_model.specs.declared.history.Act.TheVariants.{Make}
 use Rattle.melt_model.specs.declared.history.Entry.{Entry}
 use Rattle.melt_model.specs.declared.history.Value.{Value}
@@ -13,6 +13,7 @@ use Rattle.melt_model.specs.declared.operations.Reply.TheVariants.{Nil, Range}
 use Rattle.melt_word.specs.Words.{cost_of}
 use Rattle.melt_word.specs.declared.header.Shape.{Shape}
 use Rattle.melt_core.specs.Answering.{Answers}
+use Rattle.melt_core.specs.Stages.{LooksAtStop}
 use Rattle.melt_core.specs.declared.answer.Pause.TheVariants.{Asked, Space}
 use Rattle.melt_core.specs.declared.answer.Refusal.{Refusal}
 use Rattle.melt_core.specs.declared.answer.Refusal.TheVariants.{Pause}
@@ -104,11 +105,13 @@ pub record IsOnItsWay (v w : View) (words wins most : ℕ) (doing : Doing) : Typ
 abbrev pub WasAsked : View → View → Refusal → Type 0
 WasAsked v w refusal = (refusal ≡ Pause Asked) × Polls v w true
 
--- A call that claims no words: what it comes to, which it does in so many steps, and why it is refused.
+-- A call that claims no words: what it comes to, which it does in so many steps, and why it is refused. Only an
+-- operation that looks at the stop word is.
 pub record Plain (v w : View) (old new : List Value) (o : Op) (steps : ℕ) (result : Result Reply Refusal) : Type 0 where
   pub comes : Comes v w old new o result
   pub counts : Counts v w 0 0 steps
   pub refused : IfErr result (WasAsked v w)
+  pub looks : IfErr result (λ refusal. LooksAtStop (value_in old) o)
 
 -- the same of the seats of a mutator before and after, which else stays
 abbrev pub IsPlain : {R : Type 0} → Mutator R → Mutator R → Op → ℕ → Result Reply Refusal → Type 0

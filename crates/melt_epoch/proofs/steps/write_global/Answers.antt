@@ -20,7 +20,7 @@ returns-then-poll-clause-seat c =
 pub returns-then-poll-clause-plain : goal.returns-then-poll-clause-plain
 returns-then-poll-clause-plain c rs src names =
     asked_plain (knows_of c.args.seat.now) (knows_of c.poll.new.seat) rs (GStore c.args.g src) 2 (omega arith)
-    c.if-poll.ensures.polls
+    c.if-poll.ensures.polls tt
 
 pub store_global-requires-clause-polled : goal.store_global-requires-clause-polled
 store_global-requires-clause-polled c = ap (λ (x : View). x.doing) c.if-poll.ensures.polls.0.is
@@ -64,4 +64,5 @@ returns-clause-plain c rs src names =
           (λ told. gstore_answers v.thread _ c.args.g src refl refl refl refl);
       counts = after.1;
       refused = tt;
+      looks = tt;
     }

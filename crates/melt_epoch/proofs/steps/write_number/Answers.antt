@@ -9,8 +9,8 @@ use Rattle.melt_model.specs.declared.operations.Reply.TheVariants as reply
 use Rattle.melt_core.proofs.Answers.{put_answers}
 use Rattle.melt_rule.specs.Seats.{knows_of}
 use Rattle.melt_rule.specs.Tells.{Names}
-use Rattle.melt_epoch.proofs.Plainly.{Opened, adds_replies, asked_idle, asked_plain, held_nothing, nil_plain, opened}
-use Rattle.melt_epoch.proofs.Plainly.{opened_ended, opened_ends, opened_idle, opened_range, opened_speaks}
+use Rattle.melt_epoch.proofs.Plainly.{Opened, adds_replies, asked_idle, asked_plain, held_nothing, held_some, nil_plain}
+use Rattle.melt_epoch.proofs.Plainly.{opened, opened_ended, opened_ends, opened_idle, opened_range, opened_speaks}
 use Rattle.melt_epoch.proofs.steps.write_number.Goals as goal
 use Rattle.melt_epoch.proofs.steps.write_number.Goals.{After-load_header-shape}
 
@@ -42,6 +42,7 @@ pub returns-then-poll-clause-plain : goal.returns-then-poll-clause-plain
 returns-then-poll-clause-plain c rs obj names =
     asked_plain (knows_of c.args.seat.now) (knows_of c.poll.new.seat) rs (Put obj c.args.j c.args.word) 3 (omega arith)
     c.if-poll.ensures.polls
+    (held_some c.args.words.now c.args.seat.now c.args.address _ c.requires.seat names c.if-address-eq0.false)
 
 pub returns-then-j-shape-clause-seat : goal.returns-then-j-shape-clause-seat
 returns-then-j-shape-clause-seat c =
@@ -77,4 +78,5 @@ returns-clause-plain c rs obj names =
           (let b = c.if-j-shape.false in omega arith) refl refl refl);
       counts = after.counts;
       refused = tt;
+      looks = tt;
     }
