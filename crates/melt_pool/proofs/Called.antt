@@ -3,9 +3,10 @@ use Rattle.std.proofs.Common.{◌≡◌, ℕ, ◌+◌, ◌≤◌, List, arith, r
 use Rattle.std.proofs.lemmas.List.{append-nil}
 use Rattle.std.specs.Prelude.{Bool, Option, Some, Result, Ok, Err}
 use Rattle.atomic_table.specs.declared.shared.Seat.{Seat}
-use Rattle.melt_model.specs.Thread.{own}
+use Rattle.melt_model.specs.Thread.{own, value_in}
 use Rattle.melt_model.specs.declared.history.Entry.{Entry}
 use Rattle.melt_model.specs.declared.history.Slot.{Slot}
+use Rattle.melt_model.specs.declared.history.Value.TheVariants.{Nil, Ref}
 use Rattle.melt_model.specs.declared.operations.Op.{Op}
 use Rattle.melt_model.specs.declared.operations.Op.TheVariants.{New, Load, GLoad}
 use Rattle.melt_model.specs.declared.operations.Reply.{Reply}
@@ -13,6 +14,7 @@ use Rattle.melt_word.specs.Words.{IsShape, cost_of}
 use Rattle.melt_word.specs.declared.header.Shape.{Shape}
 use Rattle.melt_scion.specs.Scions.{Scions}
 use Rattle.melt_core.specs.Answering.{Answers}
+use Rattle.melt_core.specs.Stages.{LooksAtStop}
 use Rattle.melt_core.specs.declared.answer.Pause.TheVariants.{Asked, Space, Forward}
 use Rattle.melt_core.specs.declared.answer.Refusal.{Refusal}
 use Rattle.melt_core.specs.declared.answer.Refusal.TheVariants as refusal
@@ -25,7 +27,7 @@ use Rattle.melt_epoch.specs.Calls.{Counts, HoldsOnly, IsMade, IsPlain, Lacked, R
 use Rattle.melt_epoch.specs.Loading.{IsGlobalLoaded, IsSlotLoaded, LoadAsked, LoadRefused}
 use Rattle.melt_epoch.specs.Mutators.{IsSeated}
 use Rattle.melt_epoch.specs.declared.mutator.Mutator.{Mutator}
-use Rattle.melt_safepoint.specs.Needs.{IsLoad, StopsAtSafepoint}
+use Rattle.melt_safepoint.specs.Needs.{IsLoad}
 use Rattle.melt_pool.specs.Calling.{IsCalled, NeedsAt, NeedsIn, RefusedFor, RefusedKeeps, SameCauses, WasSpaced}
 
 -- what a call leaves that counts so
@@ -60,17 +62,17 @@ same_seat m s t a b = cc
 module _ {R : Type 0} (image : R → Option (List ℕ)) (faults : R → ℕ) (told : Bool) (scions : Scions) (end : ℕ)
     (m n : Mutator R) where
   -- a call that claims no words
-  pub plain_called : (o : Op) (steps : ℕ) (result : Result Reply Refusal) → StopsAtSafepoint o
-      → IsPlain m n o steps result → IsCalled image faults told scions end m n o result
-  plain_called o steps (Ok reply) stops is s t p q ms nt mp nq =
+  pub plain_called : (o : Op) (steps : ℕ) (result : Result Reply Refusal) → IsPlain m n o steps result
+      → IsCalled image faults told scions end m n o result
+  plain_called o steps (Ok reply) is s t p q ms nt mp nq =
       let plain = is.1 s t ms nt in (plain.comes, same_by (knows_of s) (knows_of t) 0 0 steps plain.counts)
-  plain_called o steps (Err refused) stops is s t p q ms nt mp nq =
+  plain_called o steps (Err refused) is s t p q ms nt mp nq =
       let plain = is.1 s t ms nt in
       let why : RefusedFor told (image p) scions end (faults p) (faults q) (knows_of s) (knows_of t) m.values o
       (Pause Asked) = (
         same_by (knows_of s) (knows_of t) 0 0 steps plain.counts,
         ap (λ (x : View). x.stopped) plain.refused.1.1,
-        stops,
+        plain.looks,
       ) in (
         plain.comes.0,
         plain.comes.1,
@@ -104,20 +106,22 @@ module _ {R : Type 0} (image : R → Option (List ℕ)) (faults : R → ℕ) (to
 
   -- why a load was refused, by what its slot is
   load_refused : (o : Op) {slot : Slot} {most : ℕ} (why : Refusal) (s t : Seat ℕ View) (p q : R) → IsLoad o
+      → LooksAtStop (value_in m.values) o
       → ((need : ℕ) → NeedsAt (knows_of s) (knows_of t) slot need → NeedsIn (knows_of s) (knows_of t) m.values o need)
       → LoadRefused told (image p) scions end (faults p) (faults q) (knows_of s) (knows_of t) slot most why
       → Sees (knows_of s) (knows_of t).seen
       × RefusedFor told (image p) scions end (faults p) (faults q) (knows_of s) (knows_of t) m.values o why
-  load_refused o {most} why s t p q loads needs (inl full) =
+  load_refused o {most} why s t p q loads looks needs (inl full) =
       let Why : Refusal → Type 0 =
       RefusedFor told (image p) scions end (faults p) (faults q) (knows_of s) (knows_of t) m.values o in
       let filled = full.full.filled in
       let forwarded : Why (Pause Forward) = (
         record { thread = filled.thread; began = filled.began; forwarded = filled.forwarded; won = filled.won },
         loads,
+        looks,
       ) in
       (full.full.sees, subst Why (sym full.full.is) forwarded)
-  load_refused o {most} why s t p q loads needs (inr (inl lacks)) =
+  load_refused o {most} why s t p q loads looks needs (inr (inl lacks)) =
       let Why : Refusal → Type 0 =
       RefusedFor told (image p) scions end (faults p) (faults q) (knows_of s) (knows_of t) m.values o in
       let spaced : Why (Pause (Space (cost_of lacks.shape))) = (
@@ -126,9 +130,9 @@ module _ {R : Type 0} (image : R → Option (List ℕ)) (faults : R → ℕ) (to
         needs (cost_of lacks.shape) (lacks.shape, refl, lacks.held),
       ) in
       (lacks.sees, subst Why (sym lacks.is) spaced)
-  load_refused o {most} refusal.DiskFault s t p q loads needs (inr (inr lost)) =
+  load_refused o {most} refusal.DiskFault s t p q loads looks needs (inr (inr lost)) =
       (lost.stays.sees, (same_by (knows_of s) (knows_of t) 0 0 most lost.stays.counts, loads, lost.lost))
-  load_refused o {most} (refusal.Damaged damaged) s t p q loads needs (inr (inr lost)) = (
+  load_refused o {most} (refusal.Damaged damaged) s t p q loads looks needs (inr (inr lost)) = (
     lost.stays.sees,
     (
       same_by (knows_of s) (knows_of t) 0 0 most lost.stays.counts,
@@ -137,19 +141,20 @@ module _ {R : Type 0} (image : R → Option (List ℕ)) (faults : R → ℕ) (to
       (lost.home, lost.below, lost.lost.0),
     ),
   )
-  load_refused o {most} (Pause cause) s t p q loads needs (inr (inr lost)) = absurd lost.lost
+  load_refused o {most} (Pause cause) s t p q loads looks needs (inr (inr lost)) = absurd lost.lost
 
   -- or refused as the stop word was set
-  load_asked : (o : Op) {most : ℕ} {why : Refusal} (s t : Seat ℕ View) (p q : R) → StopsAtSafepoint o
+  load_asked : (o : Op) {most : ℕ} {why : Refusal} (s t : Seat ℕ View) (p q : R)
+      → LooksAtStop (value_in m.values) o
       → LoadAsked (knows_of s) (knows_of t) most why → Sees (knows_of s) (knows_of t).seen
       × RefusedFor told (image p) scions end (faults p) (faults q) (knows_of s) (knows_of t) m.values o why
-  load_asked o {most} s t p q stops asked =
+  load_asked o {most} s t p q looks asked =
       let Why : Refusal → Type 0 =
       RefusedFor told (image p) scions end (faults p) (faults q) (knows_of s) (knows_of t) m.values o in
       let is_asked : Why (Pause Asked) = (
         same_by (knows_of s) (knows_of t) 0 0 most asked.stays.counts,
         ap (λ (x : View). x.stopped) asked.was.1.1,
-        stops,
+        looks,
       ) in
       (asked.stays.sees, subst Why (sym asked.was.0) is_asked)
 
@@ -162,12 +167,15 @@ module _ {R : Type 0} (image : R → Option (List ℕ)) (faults : R → ℕ) (to
       (loaded.replies, same_by (knows_of s) (knows_of t) loaded.words loaded.wins most loaded.counts)
   slot_called dst src i most (Err refused) is s t p q ms nt mp nq =
       let loaded = is s t p q ms nt mp nq in
+      let looks : LooksAtStop (value_in m.values) (Load dst src i) =
+      λ nothing. let wrong : Ref loaded.1 ≡ Nil = sym loaded.2 ∙ nothing in absurd (cc) in
       let why : Sees (knows_of s) (knows_of t).seen
       × RefusedFor told (image p) scions end (faults p) (faults q) (knows_of s) (knows_of t) m.values (Load dst src i)
       refused =
       elim loaded.3 [
-        | inl asked ↦ load_asked (Load dst src i) s t p q tt asked
-        | inr because ↦ load_refused (Load dst src i) refused s t p q tt (λ need at. (loaded.1, loaded.2, at)) because
+        | inl asked ↦ load_asked (Load dst src i) s t p q looks asked
+        | inr because ↦
+            load_refused (Load dst src i) refused s t p q tt looks (λ need at. (loaded.1, loaded.2, at)) because
       ] in
       (why.0, loaded.0, why.1)
 
@@ -185,7 +193,7 @@ module _ {R : Type 0} (image : R → Option (List ℕ)) (faults : R → ℕ) (to
       refused =
       elim loaded.1 [
         | inl asked ↦ load_asked (GLoad dst g) s t p q tt asked
-        | inr because ↦ load_refused (GLoad dst g) refused s t p q tt (λ need at. at) because
+        | inr because ↦ load_refused (GLoad dst g) refused s t p q tt tt (λ need at. at) because
       ] in
       (why.0, loaded.0, why.1)
 

@@ -17,7 +17,7 @@ use Rattle.melt_epoch.specs.Ends.{view_of}
 use Rattle.melt_epoch.specs.Loading.{KeepsCount}
 use Rattle.melt_epoch.specs.Mutators.{HasReader, IsSeated}
 use Rattle.melt_epoch.specs.declared.mutator.Mutator.{Mutator}
-use Rattle.melt_safepoint.specs.Modes.{FitsMode, IsEnded, MayGo, Waits, jobs, mode_for, owes}
+use Rattle.melt_safepoint.specs.Modes.{CallsAgain, FitsMode, IsEnded, MayGo, Waits, jobs, mode_for, owes}
 use Rattle.melt_safepoint.specs.Threads.{jobs_of, left, with_first, TakesReply}
 use Rattle.melt_safepoint.specs.declared.thread.Mode.{Mode}
 use Rattle.melt_safepoint.specs.declared.thread.Mode.TheVariants.{Running, Due, Silent, Collecting, Asked}
@@ -30,7 +30,8 @@ use Rattle.melt_pool.specs.Programs.{Works}
 use Rattle.melt_pool.specs.Programs.{dropped_for, one_going, turns_left}
 use Rattle.melt_pool.proofs.Onward.{mode_goes, refused_few, reply_goes}
 use Rattle.melt_pool.proofs.Owing.{refused_owes}
-use Rattle.melt_pool.proofs.Refused.{refused_asked, refused_caused, refused_ends, refused_fits, refused_stops}
+use Rattle.melt_pool.proofs.Refused.{refused_asked, refused_caused, refused_ends, refused_fits, refused_looks}
+use Rattle.melt_pool.proofs.Refused.{refused_stops}
 use Rattle.melt_pool.proofs.Refused.{refused_thread, refused_waits}
 use Rattle.melt_pool.proofs.Waiting.{asks_causes, told_goes}
 use Rattle.melt_pool.proofs.Working.{dropped_reader, dropped_thread, dropped_view, goes_on, replied, runs_free}
@@ -132,6 +133,7 @@ module _ {R : Type 0} (image : R → Option (List ℕ)) (faults : R → ℕ) (sc
       (goes_on script words m n s works seated (mode_for why) call.0
       (refused_thread told (image p) scions finish (faults p) (faults q) v w m.values op why call.2) call.1
       (refused_fits told (image p) scions finish (faults p) (faults q) v w m.values op why s.op next other call.2)
+      (refused_looks told (image p) scions finish (faults p) (faults q) v w m.values op why s.op next call.2)
       (λ over. subst IsEnded runs over)
       (refused_waits told (image p) scions finish (faults p) (faults q) v w m.values op why call.2
       (runs_free script words m s works runs))
@@ -248,13 +250,14 @@ asked_views words m n before seated asked =
 
 -- a thread asks all to stop, and waits
 pub asked_works : {R : Type 0} (script : Script) (words : EpochWords) (m n : Mutator R) (s : ThreadState) (mode : Mode)
-    → Works script words m s → MayGo s.mode → IsSeated words n → IsAsked m n → FitsMode mode s.op → Waits mode
+    → Works script words m s → MayGo s.mode → IsSeated words n → IsAsked m n → FitsMode mode s.op
+    → (CallsAgain mode → ⊥) → Waits mode
     → Works script words n (record s { mode = mode })
-asked_works {R} script words m n s mode works may seated asked fits waits =
+asked_works {R} script words m n s mode works may seated asked fits once waits =
     let has = asked_views words m n works.seated seated asked in
     subst (λ (x : Mutator R). Works script words x (record s { mode = mode })) (waits_keeps n mode waits)
     (goes_on script words m n s works seated mode has.sees has.thread (ap (λ (x : Mutator R). x.values) asked.0) fits
-    (may_not_end s.mode may) (λ cause. waits) (λ is. absurd (subst Waits is waits)))
+    (λ again. absurd (once again)) (may_not_end s.mode may) (λ cause. waits) (λ is. absurd (subst Waits is waits)))
 
 -- and goes on
 pub asked_goes : {R : Type 0} (every : ℕ) {script : Script} {words : EpochWords} {m n : Mutator R}

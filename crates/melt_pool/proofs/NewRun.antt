@@ -26,7 +26,7 @@ use Rattle.melt_core.specs.Views.{IsQuiet, View, call_of, held_values, names_for
 use Rattle.melt_core.proofs.Values.{get_or_replicate}
 use Rattle.melt_epoch.specs.declared.mutator.Mutator.{Mutator}
 use Rattle.melt_safepoint.specs.Collections.{NoneForwarded}
-use Rattle.melt_safepoint.specs.Modes.{FitsMode, ForCollection, owes_silent}
+use Rattle.melt_safepoint.specs.Modes.{CallsAgain, FitsMode, ForCollection, owes_silent}
 use Rattle.melt_safepoint.specs.Passing.{NoneOwn}
 use Rattle.melt_safepoint.specs.Rows.{Row, RunStands}
 use Rattle.melt_safepoint.specs.Shown.{Shown}
@@ -127,6 +127,10 @@ new_thread told script threads t heap {registers} {s} held below new =
         | inl runs ↦ subst (λ (m : Mode). FitsMode m s.op) (sym runs.0) runs.1
         | inr over ↦ subst (λ (m : Mode). FitsMode m s.op) (sym over.0) tt
       ];
+      looks = λ again. absurd (elim new.mode [
+        | inl runs ↦ subst CallsAgain runs.0 again
+        | inr over ↦ subst CallsAgain over.0 again
+      ]);
       in_range = new.in_range;
       globals = new.knows;
       room = omega (arith, ap length new.replies, ap length new.to_come, new.capacity);

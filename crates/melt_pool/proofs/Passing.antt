@@ -19,7 +19,7 @@ use Rattle.melt_rule.specs.declared.began.Began.{Began}
 use Rattle.melt_epoch.specs.Ends.{HasEnded, HasJoined, MayEnd, MutatorsBegin, unseated, view_of}
 use Rattle.melt_epoch.specs.Mutators.{IsSeated}
 use Rattle.melt_epoch.specs.declared.mutator.Mutator.{Mutator}
-use Rattle.melt_safepoint.specs.Modes.{FitsMode, IsEnded}
+use Rattle.melt_safepoint.specs.Modes.{CallsAgain, FitsMode, IsEnded}
 use Rattle.melt_safepoint.specs.Threads.{jobs_of}
 use Rattle.melt_safepoint.specs.declared.thread.Mode.{Mode}
 use Rattle.melt_safepoint.specs.declared.thread.Mode.TheVariants.{Running, Due, Silent, Collecting, Asked}
@@ -78,6 +78,16 @@ again_not_asked Asked is = let no : Running ≡ Asked = is in absurd (cc)
 again_not_asked Lacking is = let no : Running ≡ Asked = is in absurd (cc)
 again_not_asked (Ended e) is = let no : Ended e ≡ Asked = is in absurd (cc)
 
+-- it is not to be made once more
+again_once : (mode : Mode) → CallsAgain (mode_again mode) → ⊥
+again_once Running again = again
+again_once Due again = again
+again_once Silent again = again
+again_once Collecting again = again
+again_once Asked again = again
+again_once Lacking again = again
+again_once (Ended e) again = again
+
 module _ {R : Type 0} where
   -- a thread that rests may run, once it has joined an epoch
   pub joined_works : (script : Script) (words : EpochWords) (s : ThreadState) (m n : Mutator (Worker R))
@@ -120,6 +130,7 @@ module _ {R : Type 0} where
               let both : true ≡ false = sym cause ∙ none in
               cc);
           asked = λ is. absurd (again_not_asked s.mode is);
+          looks = λ again. absurd (again_once s.mode again);
           globals = globals;
         };
       }
@@ -182,6 +193,7 @@ module _ {R : Type 0} where
               in_registers = was.in_registers;
             };
         dropped = run.works.dropped;
+        looks = run.works.looks;
       };
       size = run.works.seated.size;
       waits = run.waits;

@@ -1,9 +1,11 @@
 -- What a thread is told by a call that was refused.
 use Rattle.std.proofs.Common.{◌≡◌, ◌≢◌, ℕ, ◌<◌, ◌≤◌, List, refl, sym, ◌∙◌, ap, subst, arith, inl, inr, true}
-use Rattle.std.specs.Prelude.{Bool, Option, Some, slice_get}
+use Rattle.std.specs.Prelude.{Bool, Option, Some, IfSome, slice_get}
 use Rattle.std.proofs.lemmas.Bool.{cases_lt}
 use Rattle.melt_model.specs.declared.config.Config.{Config}
+use Rattle.melt_model.specs.Thread.{value_in}
 use Rattle.melt_model.specs.declared.history.Value.{Value}
+use Rattle.melt_model.specs.declared.history.Value.TheVariants.{Nil, Ref}
 use Rattle.melt_model.specs.declared.operations.Op.{Op}
 use Rattle.melt_model.specs.declared.operations.Op.TheVariants as op
 use Rattle.melt_model.specs.declared.operations.Op.TheVariants.{Collect}
@@ -12,6 +14,7 @@ use Rattle.melt_record.specs.declared.damage.Damaged.{Damaged}
 use Rattle.melt_io.specs.Outside.{Rose}
 use Rattle.melt_scion.specs.Scions.{Scions}
 use Rattle.melt_core.specs.Advances.{Breaks}
+use Rattle.melt_core.specs.Stages.{LooksAtStop}
 use Rattle.melt_core.specs.declared.answer.Pause.TheVariants.{Asked, Space, Forward}
 use Rattle.melt_core.specs.declared.answer.Refusal.{Refusal}
 use Rattle.melt_core.specs.declared.answer.Refusal.TheVariants as refusal
@@ -23,7 +26,7 @@ use Rattle.melt_core.specs.declared.call.Stage.TheVariants.{HeadRead, Missed}
 use Rattle.melt_rule.specs.Rule.{has_cause}
 use Rattle.melt_rule.specs.declared.view.View.{View}
 use Rattle.melt_epoch.specs.Fetching.{IsDamage}
-use Rattle.melt_safepoint.specs.Modes.{FitsMode, Waits, mode_for}
+use Rattle.melt_safepoint.specs.Modes.{CallsAgain, FitsMode, Waits, mode_for}
 use Rattle.melt_safepoint.specs.Needs.{CanLackRoom, IsLoad}
 use Rattle.melt_safepoint.specs.Run.{WasRead}
 use Rattle.melt_safepoint.specs.declared.thread.Mode.TheVariants as mode
@@ -46,7 +49,23 @@ wants_room v w values (op.Copy dst src) need needs = absurd needs
 wants_room v w values (op.Drop r) need needs = absurd needs
 wants_room v w values op.Collect need needs = absurd needs
 
--- and so can a load
+-- and looks at the stop word
+wants_looks : (v w : View) (values : List Value) (o : Op) (need : ℕ) → NeedsIn v w values o need
+    → LooksAtStop (value_in values) o
+wants_looks v w values (op.New dst refs nums) need needs = tt
+wants_looks v w values (op.Load dst src i) need needs =
+    λ nothing. let wrong : Ref needs.0 ≡ Nil = sym needs.1 ∙ nothing in absurd (cc)
+wants_looks v w values (op.Store obj i src) need needs = absurd needs
+wants_looks v w values (op.Get src j) need needs = absurd needs
+wants_looks v w values (op.Put obj j x) need needs = absurd needs
+wants_looks v w values (op.GLoad dst g) need needs = tt
+wants_looks v w values (op.GStore g src) need needs = absurd needs
+wants_looks v w values (op.Same a b) need needs = absurd needs
+wants_looks v w values (op.Copy dst src) need needs = absurd needs
+wants_looks v w values (op.Drop r) need needs = absurd needs
+wants_looks v w values op.Collect need needs = absurd needs
+
+-- a load can lack room too
 load_lacks : (o : Op) → IsLoad o → CanLackRoom o
 load_lacks (op.New dst refs nums) loads = tt
 load_lacks (op.Load dst src i) loads = tt
@@ -161,7 +180,7 @@ module _ (told : Bool) (image : Option (List ℕ)) (scions : Scions) (end before
   fits_some : (why : Refusal) → o ≢ Collect → RefusedFor told image scions end before after v w values o why
       → FitsMode (mode_for why) (Some o)
   fits_some (Pause Asked) other because =
-      (refl, λ is. other (let same : Some o ≡ Some Collect = is in cc), because.2)
+      (refl, λ is. other (let same : Some o ≡ Some Collect = is in cc))
   fits_some (Pause (Space need)) other because =
       (refl, λ is. other (let same : Some o ≡ Some Collect = is in cc), wants_room v w values o need because.1)
   fits_some (Pause Forward) other because =
@@ -172,6 +191,21 @@ module _ (told : Bool) (image : Option (List ℕ)) (scions : Scions) (end before
   pub refused_fits : (why : Refusal) (next : Option Op) → next ≡ Some o → o ≢ Collect
       → RefusedFor told image scions end before after v w values o why → FitsMode (mode_for why) next
   refused_fits why next is other because = subst (FitsMode (mode_for why)) (sym is) (fits_some why other because)
+
+  -- and how the thread that makes the call again comes by it
+  looks_some : (why : Refusal) → RefusedFor told image scions end before after v w values o why
+      → CallsAgain (mode_for why) → LooksAtStop (value_in values) o
+  looks_some (Pause Asked) because again = because.2
+  looks_some (Pause (Space need)) because again = wants_looks v w values o need because.1
+  looks_some (Pause Forward) because again = because.2
+  looks_some refusal.DiskFault because again = absurd again
+  looks_some (refusal.Damaged damaged) because again = absurd again
+
+  pub refused_looks : (why : Refusal) (next : Option Op) → next ≡ Some o
+      → RefusedFor told image scions end before after v w values o why → CallsAgain (mode_for why)
+      → IfSome next (LooksAtStop (value_in values))
+  refused_looks why next is because again =
+      subst (λ (x : Option Op). IfSome x (LooksAtStop (value_in values))) (sym is) (looks_some why because again)
 
 -- a thread whose call was refused makes no other
 pub refused_stops : (why : Refusal) → one_going (mode_for why) ≡ 0

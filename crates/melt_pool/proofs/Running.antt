@@ -36,6 +36,7 @@ works_with script words m s r works = record {
   dropped = works.dropped;
   waits = works.waits;
   asked = works.asked;
+  looks = works.looks;
   globals = works.globals;
 }
 

@@ -4,17 +4,20 @@ use Rattle.std.proofs.Common.{sym, ◌∙◌, ap, subst, arith, inl, inr, ◌⊎
 use Rattle.std.proofs.Math.ListN.{get_elem?, length-map}
 use Rattle.std.proofs.lemmas.Option.{get_or_from_slice_get, same_Some, slice_get-map, slice_get_cases}
 use Rattle.std.proofs.lemmas.Option.{slice_get_within}
-use Rattle.std.specs.Prelude.{All, Bool, Contains, map, Option, None, Some, slice_get, sum}
+use Rattle.std.specs.Prelude.{All, Bool, Contains, map, Option, None, Some, IfSome, slice_get, sum}
 use Rattle.std.specs.Option.{option_map, option_map_or}
 use mathlib.Core.Option.{some, some-injective, some-ne-none}
 use Rattle.melt_model.specs.declared.config.Config.{Config}
+use Rattle.melt_model.specs.Thread.{value_in}
 use Rattle.melt_model.specs.declared.history.Entry.{Entry}
+use Rattle.melt_model.specs.declared.history.Value.{Value}
 use Rattle.melt_model.specs.declared.reports.Journal.{Journal}
 use Rattle.melt_model.specs.declared.reports.ThreadEnd.TheVariants as end
 use Rattle.melt_trace.specs.Script.{Script}
 use Rattle.melt_scion.specs.Heaps.{OnDisk}
 use Rattle.melt_scion.specs.declared.heap.Heap.{Heap}
 use Rattle.melt_scion.specs.declared.registers.Registers.{Registers}
+use Rattle.melt_core.specs.Stages.{LooksAtStop}
 use Rattle.melt_core.specs.Views.{IsQuiet, Standing, View, call_of, values_of}
 use Rattle.melt_rule.specs.Rule.{Begins, has_cause}
 use Rattle.melt_rule.specs.declared.began.Began.{Began}
@@ -450,6 +453,8 @@ module _ {R : Type 0} (told : Bool) (script : Script) (config : Config) (disk : 
           dropped = λ over. shows.values t it.back it.came ∙ rests.dropped over;
           call = λ c is_call. absurd (let none : call_of w t ≡ None = shows.quiet t in cc);
           fits = program.fits;
+          looks = λ again. subst (λ (rs : List Value). IfSome x.op (LooksAtStop (value_in rs)))
+              (sym (shows.values t it.back it.came)) (rests.looks again);
           in_range = program.in_range;
           globals = program.globals;
           room = program.room;

@@ -1,13 +1,16 @@
 -- The threads of a run that stands between two epochs, as their mutators bring them into the next one.
 use Rattle.std.proofs.Common.{◌≡◌, ℕ, List, length, take, sym, ◌∙◌, subst, arith, inl, inr}
 use Rattle.std.proofs.lemmas.Option.{slice_get_cases, slice_get_within}
-use Rattle.std.specs.Prelude.{Bool, Option, Some, slice_get}
+use Rattle.std.specs.Prelude.{Bool, Option, Some, IfSome, slice_get}
 use Rattle.melt_model.specs.Standing.{Stands}
+use Rattle.melt_model.specs.Thread.{value_in}
 use Rattle.melt_model.specs.declared.config.Config.{Config}
 use Rattle.melt_model.specs.declared.history.Entry.{Entry}
+use Rattle.melt_model.specs.declared.history.Value.{Value}
 use Rattle.melt_trace.specs.Script.{Script, operations}
 use Rattle.melt_scion.specs.Heaps.{OnDisk}
 use Rattle.melt_scion.specs.declared.registers.Registers.{Registers}
+use Rattle.melt_core.specs.Stages.{LooksAtStop}
 use Rattle.melt_core.specs.Views.{View}
 use Rattle.melt_rule.specs.declared.began.Began.{Began}
 use Rattle.melt_epoch.specs.declared.mutator.Mutator.{Mutator}
@@ -67,6 +70,8 @@ module _ {R : Type 0} (told : Bool) (script : Script) (config : Config) (disk : 
               ];
             });
         dropped = λ over. x.values ∙ st.dropped over;
+        looks = λ again. subst (λ (rs : List Value). IfSome s.op (LooksAtStop (value_in rs))) (sym x.values)
+            (st.looks again);
       }
 
   -- and so do all

@@ -4,7 +4,7 @@ use Rattle.std.proofs.Common.{◌∙◌, ap, subst, arith, length-append, inl, i
 use Rattle.std.specs.Prelude.{◌⊎◌, Option, Some, IfSome, replicate, vec_capacity, ◌||◌}
 use Rattle.melt_model.specs.History.{Legal}
 use Rattle.melt_model.specs.Standing.{Stands}
-use Rattle.melt_model.specs.Thread.{does, own}
+use Rattle.melt_model.specs.Thread.{does, own, value_in}
 use Rattle.melt_model.specs.declared.history.Entry.{Entry}
 use Rattle.melt_model.specs.declared.history.Value.{Value}
 use Rattle.melt_model.specs.declared.history.Value.TheVariants.{Nil}
@@ -14,6 +14,7 @@ use Rattle.melt_model.specs.declared.reports.ThreadEnd.TheVariants as end
 use Rattle.melt_trace.specs.Grammar.{InRange}
 use Rattle.melt_trace.specs.Script.{Script, operations}
 use Rattle.melt_core.specs.Answering.{Answers}
+use Rattle.melt_core.specs.Stages.{LooksAtStop}
 use Rattle.melt_rule.specs.Rule.{Begins, has_cause}
 use Rattle.melt_rule.specs.Seats.{EpochWords, knows_of}
 use Rattle.melt_rule.specs.Tells.{Sees}
@@ -24,12 +25,13 @@ use Rattle.melt_epoch.specs.Ends.{view_in, view_of}
 use Rattle.melt_epoch.specs.Mutators.{IsSeated, with_none}
 use Rattle.melt_epoch.specs.declared.mutator.Mutator.{Mutator}
 use Rattle.melt_epoch.proofs.Empty.{none_held}
-use Rattle.melt_safepoint.specs.Modes.{FitsMode, IsEnded, Waits}
+use Rattle.melt_safepoint.specs.Modes.{CallsAgain, FitsMode, IsEnded, Waits}
 use Rattle.melt_safepoint.specs.Threads.{left, with_first, TakesReply}
 use Rattle.melt_safepoint.specs.declared.thread.Mode.{Mode}
 use Rattle.melt_safepoint.specs.declared.thread.Mode.TheVariants.{Running, Due, Silent, Collecting, Asked}
 use Rattle.melt_safepoint.specs.declared.thread.Mode.TheVariants.{Lacking, Ended}
 use Rattle.melt_safepoint.specs.declared.thread.ThreadState.{ThreadState}
+use Rattle.melt_safepoint.proofs.Modes.{told_again}
 use Rattle.melt_safepoint.proofs.Threads.{drop_next, take_next}
 use Rattle.melt_safepoint.proofs.Telling.{Stands_answers, with_more}
 use Rattle.melt_pool.specs.Calling.{SameCauses}
@@ -173,6 +175,12 @@ module _ {R : Type 0} where
   dropped_or_not Lacking n = inr refl
   dropped_or_not (Ended e) n = inl tt
 
+  -- nor does one that makes its call again
+  dropped_again : (mode : Mode) (n : Mutator R) → CallsAgain mode → n.values ≡ (dropped_for mode n).values
+  dropped_again Asked n again = refl
+  dropped_again Lacking n again = refl
+  dropped_again mode n again = absurd again
+
   pub dropped_view : (mode : Mode) (n : Mutator R) → view_of (dropped_for mode n) ≡ view_of n
   dropped_view Running n = refl
   dropped_view Due n = refl
@@ -250,10 +258,11 @@ module _ {R : Type 0} where
 
     -- A thread goes on in another mode, without a reply.
     pub goes_on : (mode : Mode) → Sees (view_of m) (view_of n).seen → (view_of n).thread ≡ (view_of m).thread
-        → n.values ≡ m.values → FitsMode mode s.op → (IsEnded s.mode → ⊥)
+        → n.values ≡ m.values → FitsMode mode s.op → (CallsAgain mode → IfSome s.op (LooksAtStop (value_in m.values)))
+        → (IsEnded s.mode → ⊥)
         → (has_cause (view_of n) ≡ true → Waits mode) → (mode ≡ Asked → (view_of n).stopped ≡ true)
         → Works script words (dropped_for mode n) (record s { mode = mode })
-    goes_on mode sees same values fits goes waits asked =
+    goes_on mode sees same values fits looks goes waits asked =
         let thread : (dropped_for mode n).thread ≡ m.thread =
         dropped_thread mode n ∙ thread_stays words m n works.seated seated same in
         let view_is : view_of (dropped_for mode n) ≡ view_of n = dropped_view mode n in
@@ -279,6 +288,8 @@ module _ {R : Type 0} where
           dropped = dropped_values mode n;
           waits = λ cause. waits (sym (ap has_cause view_is) ∙ cause);
           asked = λ is. ap (λ (v : View). v.stopped) view_is ∙ asked is;
+          looks = λ again. subst (λ (rs : List Value). IfSome s.op (LooksAtStop (value_in rs)))
+              (sym values ∙ dropped_again mode n again) (looks again);
           globals = works.globals;
         }
 
@@ -334,5 +345,6 @@ module _ {R : Type 0} where
               | inr ended ↦ let no : Ended end.Done ≡ Asked = sym ended.0 ∙ is in cc
             ]
           ]);
+          looks = λ again. absurd (told_again takes again);
           globals = works.globals;
         }

@@ -13,6 +13,7 @@ use Rattle.melt_word.specs.Words.{cost_of}
 use Rattle.melt_word.specs.declared.header.Shape.{Shape}
 use Rattle.melt_io.specs.Outside.{Rose}
 use Rattle.melt_scion.specs.Scions.{Scions}
+use Rattle.melt_core.specs.Stages.{LooksAtStop}
 use Rattle.melt_core.specs.declared.answer.Pause.TheVariants.{Asked, Space, Forward}
 use Rattle.melt_core.specs.declared.answer.Refusal.{Refusal}
 use Rattle.melt_core.specs.declared.answer.Refusal.TheVariants as refusal
@@ -24,7 +25,7 @@ use Rattle.melt_epoch.specs.Calls.{Replies}
 use Rattle.melt_epoch.specs.Fetching.{IsDamage}
 use Rattle.melt_epoch.specs.Loading.{HeldHas}
 use Rattle.melt_epoch.specs.declared.mutator.Mutator.{Mutator}
-use Rattle.melt_safepoint.specs.Needs.{IsLoad, StopsAtSafepoint}
+use Rattle.melt_safepoint.specs.Needs.{IsLoad}
 
 -- A seat of the same thread, with the causes to stop that it had, and as many commits that it won.
 pub record SameCauses (v w : View) : Type 0 where
@@ -64,10 +65,11 @@ NeedsIn v w values o need = ⊥
 -- why a call was refused
 abbrev pub RefusedFor : Bool → Option (List ℕ) → Scions → ℕ → ℕ → ℕ → View → View → List Value → Op → Refusal → Type 0
 RefusedFor told image scions end before after v w values o (Pause Asked) =
-    SameCauses v w × (w.stopped ≡ true) × StopsAtSafepoint o
+    SameCauses v w × (w.stopped ≡ true) × LooksAtStop (value_in values) o
 RefusedFor told image scions end before after v w values o (Pause (Space need)) =
     WasSpaced v w need × NeedsIn v w values o need
-RefusedFor told image scions end before after v w values o (Pause Forward) = WasForwarded v w × IsLoad o
+RefusedFor told image scions end before after v w values o (Pause Forward) =
+    WasForwarded v w × IsLoad o × LooksAtStop (value_in values) o
 RefusedFor told image scions end before after v w values o refusal.DiskFault =
     SameCauses v w × IsLoad o × Rose before after
 RefusedFor told image scions end before after v w values o (refusal.Damaged damaged) =

@@ -1,6 +1,6 @@
 -- What an epoch of real threads comes to.
 use Rattle.std.specs.Prelude.{◌≡◌, ◌≢◌, ℕ, ◌+◌, ◌<◌, ◌≤◌, Bool, true, List, ◌++◌, length, map, replicate, All, Option}
-use Rattle.std.specs.Prelude.{None, Some, slice_get, slice_index}
+use Rattle.std.specs.Prelude.{None, Some, IfSome, slice_get, slice_index}
 use Rattle.melt_model.specs.History.{last, shape}
 use Rattle.melt_model.specs.Thread.{own, value_in}
 use Rattle.melt_model.specs.declared.history.Entry.{Entry}
@@ -18,6 +18,7 @@ use Rattle.melt_record.specs.declared.head.Kind.TheVariants.{Body}
 use Rattle.melt_scion.specs.GhostMaps.{named}
 use Rattle.melt_scion.specs.Placed.{HeadIs}
 use Rattle.melt_scion.specs.declared.heap.Heap.{Heap}
+use Rattle.melt_core.specs.Stages.{LooksAtStop}
 use Rattle.melt_rule.specs.Rule.{has_cause}
 use Rattle.melt_rule.specs.Seats.{EpochWords}
 use Rattle.melt_rule.specs.Shown.{base_at}
@@ -25,7 +26,7 @@ use Rattle.melt_rule.specs.declared.began.Began.{Began}
 use Rattle.melt_epoch.specs.Ends.{HasEnded, unseated, view_of}
 use Rattle.melt_epoch.specs.Mutators.{HasReader}
 use Rattle.melt_epoch.specs.declared.mutator.Mutator.{Mutator}
-use Rattle.melt_safepoint.specs.Modes.{IsEnded, MayGo, Waits}
+use Rattle.melt_safepoint.specs.Modes.{CallsAgain, IsEnded, MayGo, Waits}
 use Rattle.melt_safepoint.specs.Threads.{jobs_of}
 use Rattle.melt_safepoint.specs.declared.thread.Mode.TheVariants.{Asked}
 use Rattle.melt_safepoint.specs.declared.thread.ThreadState.{ThreadState}
@@ -75,13 +76,14 @@ NeedsFrom b values (op.GLoad dst g) need = RefersTo b (Global g) need
 NeedsFrom b values o need = ⊥
 
 -- A thread between two epochs. What it was told stands in the history, where that is told. One that has ended holds
--- nothing.
+-- nothing. One whose call is to be made again looks at the stop word by it.
 pub record Rests {R : Type 0} (told : Bool) (script : Script) (h : List Entry) (s : ThreadState)
     (m : Mutator (Worker R)) : Type 0 where
   pub brings : Brings m s
   pub program : ProgramStands script m.thread s
   pub replies_stand : told ≡ true → RepliesStandIn script h m.thread s m.values
   pub dropped : IsEnded s.mode → m.values ≡ replicate 16 Nil
+  pub looks : CallsAgain s.mode → IfSome s.op (LooksAtStop (value_in m.values))
 
 -- all threads of a script before an epoch
 pub record AllRest {R : Type 0} (script : Script) (b : Began) (ms : List (Mutator (Worker R))) : Type 0 where

@@ -4,7 +4,7 @@ use Rattle.std.specs.Prelude.{replicate}
 use Rattle.std.specs.Prelude.{None, Some, IfSome, Result, Ok, Err, vec_capacity}
 use Rattle.std.specs.List.{count_by}
 use Rattle.melt_model.specs.Standing.{Stands}
-use Rattle.melt_model.specs.Thread.{own}
+use Rattle.melt_model.specs.Thread.{own, value_in}
 use Rattle.melt_model.specs.declared.config.Config.{Config}
 use Rattle.melt_model.specs.declared.history.Entry.{Entry}
 use Rattle.melt_model.specs.declared.history.Value.{Value}
@@ -13,13 +13,14 @@ use Rattle.melt_model.specs.declared.operations.Reply.{Reply}
 use Rattle.melt_model.specs.declared.reports.ThreadEnd.TheVariants as end
 use Rattle.melt_trace.specs.Grammar.{InRange}
 use Rattle.melt_trace.specs.Script.{Script, operations}
+use Rattle.melt_core.specs.Stages.{LooksAtStop}
 use Rattle.melt_core.specs.declared.answer.Refusal.{Refusal}
 use Rattle.melt_rule.specs.Rule.{has_cause}
 use Rattle.melt_rule.specs.Seats.{EpochWords}
 use Rattle.melt_epoch.specs.Ends.{view_of}
 use Rattle.melt_epoch.specs.Mutators.{IsSeated, with_none}
 use Rattle.melt_epoch.specs.declared.mutator.Mutator.{Mutator}
-use Rattle.melt_safepoint.specs.Modes.{FitsMode, ForCollection, IsEnded, Waits, mode_for, owes, owes_silent}
+use Rattle.melt_safepoint.specs.Modes.{CallsAgain, FitsMode, ForCollection, IsEnded, Waits, mode_for, owes, owes_silent}
 use Rattle.melt_safepoint.specs.Asked.{is_collect, silent_in}
 use Rattle.melt_safepoint.specs.Run.{LoadsNext, WasRead}
 use Rattle.melt_safepoint.specs.Threads.{jobs_of, left, TakesReply}
@@ -48,7 +49,7 @@ pub record RepliesStandIn (script : Script) (h : List Entry) (t : ℕ) (s : Thre
 
 -- A thread in an epoch. What it was told stands in what its seat has seen, where the epoch is told. One that has ended
 -- holds nothing. One whose seat has a cause to stop waits for that, and one that was asked to stop found the stop word
--- set.
+-- set. One whose call is to be made again looks at the stop word by it.
 pub record Works {R : Type 0} (script : Script) (words : EpochWords) (m : Mutator R) (s : ThreadState) : Type 0 where
   pub seated : IsSeated words m
   pub program : ProgramStands script m.thread s
@@ -56,6 +57,7 @@ pub record Works {R : Type 0} (script : Script) (words : EpochWords) (m : Mutato
   pub dropped : IsEnded s.mode → m.values ≡ replicate 16 Nil
   pub waits : has_cause (view_of m) ≡ true → Waits s.mode
   pub asked : s.mode ≡ Asked → (view_of m).stopped ≡ true
+  pub looks : CallsAgain s.mode → IfSome s.op (LooksAtStop (value_in m.values))
   pub globals : words.start.began.globals ≡ script.globals
 
 -- Why a thread may have ended in an epoch, over a disk that ends at this word, and what its reader has counted then.

@@ -1,17 +1,19 @@
 -- A thread before its first operation was told nothing, and stands so in the empty history.
 use Rattle.std.proofs.Common.{◌≡◌, ℕ, ◌≤◌, true, List, [], ◌∷◌, length, replicate, refl, sym, ◌∙◌, ap, subst}
 use Rattle.std.proofs.Common.{arith, inl, inr}
-use Rattle.std.specs.Prelude.{zero, suc, Option, None, Some, take, drop, vec_capacity}
+use Rattle.std.specs.Prelude.{zero, suc, Option, None, Some, IfSome, take, drop, vec_capacity}
 use Rattle.melt_model.proofs.Transcripts.{Stands_start}
 use Rattle.melt_model.specs.Standing.{Stands}
+use Rattle.melt_model.specs.Thread.{value_in}
 use Rattle.melt_model.specs.declared.history.Value.TheVariants.{Nil}
 use Rattle.melt_model.specs.declared.operations.Op.{Op}
 use Rattle.melt_model.specs.declared.operations.Reply.{Reply}
 use Rattle.melt_trace.specs.Script.{Script, operations}
+use Rattle.melt_core.specs.Stages.{LooksAtStop}
 use Rattle.melt_epoch.specs.Ends.{MutatorBegins}
 use Rattle.melt_epoch.specs.Tests.{MayStart}
 use Rattle.melt_epoch.specs.declared.mutator.Mutator.{Mutator}
-use Rattle.melt_safepoint.specs.Modes.{FitsMode, IsEnded}
+use Rattle.melt_safepoint.specs.Modes.{CallsAgain, FitsMode, IsEnded}
 use Rattle.melt_safepoint.specs.Threads.{IsNewThread, left}
 use Rattle.melt_safepoint.specs.declared.thread.Mode.{Mode}
 use Rattle.melt_safepoint.specs.declared.thread.Mode.TheVariants.{Running, Lacking}
@@ -60,6 +62,10 @@ new_rests script s m worker new there state values = record {
     in_registers = inr (sym values);
   };
   dropped = λ over. values;
+  looks = λ again. absurd (elim new.mode [
+    | inl runs ↦ subst CallsAgain runs.0 again
+    | inr ended ↦ subst CallsAgain ended.0 again
+  ]);
 }
 
 -- two such threads
@@ -101,9 +107,9 @@ module _ {R : Type 0} (m n : Mutator (Worker R)) (worker : Worker R) (state : Th
       } in
       subst (MutatorBegins none start) (sym is) here
 
-  pub refused_new : (script : Script) → state.mode ≡ Running → FitsMode Lacking state.op → IsNew script m
-      → IsNew script n
-  refused_new script runs fits new =
+  pub refused_new : (script : Script) → state.mode ≡ Running → FitsMode Lacking state.op
+      → IfSome state.op (LooksAtStop (value_in m.values)) → IsNew script m → IsNew script n
+  refused_new script runs fits looks new =
       let was = new.1 in
       let same : new.0 ≡ state = brings_one m new.0 state worker was.brings there had in
       let program : ProgramStands script m.thread state =
@@ -122,6 +128,7 @@ module _ {R : Type 0} (m n : Mutator (Worker R)) (worker : Worker R) (state : Th
           ];
         };
         dropped = λ over. absurd over;
+        looks = λ again. looks;
       } in
       (refused, subst (Rests true script [] refused) (sym is) here)
 

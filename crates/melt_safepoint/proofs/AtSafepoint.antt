@@ -5,7 +5,7 @@ use Rattle.std.proofs.Math.ListN.{set}
 use Rattle.std.proofs.lemmas.Bool.{cases_eq}
 use Rattle.std.proofs.lemmas.List.{append-nil}
 use Rattle.std.proofs.lemmas.Option.{same_Some, slice_get_cases, slice_get_within}
-use Rattle.std.specs.Prelude.{Bool, Option, None, Some, slice_get}
+use Rattle.std.specs.Prelude.{Bool, Option, None, Some, IfSome, slice_get}
 use Rattle.melt_model.proofs.Histories.{slice_get-append_left, slice_get-append_seam}
 use Rattle.melt_model.specs.declared.config.Config.{Config}
 use Rattle.melt_model.specs.declared.history.Entry.{Entry}
@@ -15,50 +15,54 @@ use Rattle.melt_model.specs.declared.operations.Reply.{Reply}
 use Rattle.melt_model.specs.declared.reports.Journal.{Journal}
 use Rattle.melt_trace.specs.Script.{Script, operations}
 use Rattle.melt_scion.specs.Heaps.{OnDisk}
-use Rattle.melt_core.specs.Views.{View}
+use Rattle.melt_core.specs.Stages.{LooksAtStop}
+use Rattle.melt_core.specs.Views.{View, value}
 use Rattle.melt_safepoint.specs.declared.thread.Mode.{Mode}
 use Rattle.melt_safepoint.specs.declared.thread.Mode.TheVariants.{Asked, Collecting, Due, Ended, Lacking, Running, Silent}
 use Rattle.melt_safepoint.specs.declared.thread.ThreadState.{ThreadState}
 use Rattle.melt_safepoint.specs.Cuts.{CountsBy, Cut, HadOwn, IsDue, IsMoment, IsSafepoint, Moment, WaitsAt, collection}
+use Rattle.melt_safepoint.specs.Cuts.{registers_at}
 use Rattle.melt_safepoint.specs.Endings.{HaveMoments, RestMoments, gone_in, has_gone, now}
-use Rattle.melt_safepoint.specs.Modes.{FitsMode, HadNoRoom, IsEnded, MayGo, owes_silent}
+use Rattle.melt_safepoint.specs.Modes.{CallsAgain, FitsMode, HadNoRoom, IsEnded, MayGo, owes_silent}
 use Rattle.melt_safepoint.specs.Rows.{RestsSo, Row}
 use Rattle.melt_safepoint.specs.declared.collector.Collector.{Collector}
 use Rattle.melt_safepoint.specs.Tables.{TableStands, ThreadStands}
 use Rattle.melt_safepoint.specs.Threads.{AllWait, Later, replies_of}
 use Rattle.melt_safepoint.proofs.Cuts.{gone_cases, gone_here, gone_past, replies_here}
 use Rattle.melt_safepoint.proofs.InOrder.{HaveMoments_later, last_moment, moments_collected, none_set, same_moments}
-use Rattle.melt_safepoint.proofs.PausedOps.{lacking_stops}
 use Rattle.melt_safepoint.proofs.Modes.{later_mode}
-use Rattle.melt_safepoint.proofs.Moments.{next_op}
+use Rattle.melt_safepoint.proofs.Moments.{looks_now, next_op}
 use Rattle.melt_safepoint.proofs.Threads.{get_set_other, get_set_same, later_set, replies_other, replies_same}
 
 -- a thread that has not ended waits, or has had its own collection, by its mode
-waits_by_mode : (script : Script) (config : Config) (moments : List Moment) (cut : Cut) (t : ℕ) (mode : Mode)
-    (op : Option Op) → FitsMode mode op → (IsEnded mode → ⊥) → (owes_silent mode ≡ true → IsDue config (cut.replies t))
+waits_by_mode : (script : Script) (log : List Entry) (config : Config) (moments : List Moment) (cut : Cut) (t : ℕ)
+    (mode : Mode) (op : Option Op) → FitsMode mode op
+    → (CallsAgain mode → IfSome op (LooksAtStop (registers_at script log cut t))) → (IsEnded mode → ⊥)
+    → (owes_silent mode ≡ true → IsDue config (cut.replies t))
     → (MayGo mode → IsDue config (cut.replies t) ⊎ HadOwn script moments cut t)
     → ((o : Op) → op ≡ Some o → slice_get (operations script t) (cut.replies t) ≡ Some o)
-    → WaitsAt script config cut t ⊎ HadOwn script moments cut t
-waits_by_mode script config moments cut t Running op fits goes due own next = elim (own tt) [
+    → WaitsAt script log config cut t ⊎ HadOwn script moments cut t
+waits_by_mode script log config moments cut t Running op fits looks goes due own next = elim (own tt) [
   | inl is_due ↦ inl (inl is_due)
   | inr had ↦ inr had
 ]
-waits_by_mode script config moments cut t Due op fits goes due own next = inl (inl (due refl))
-waits_by_mode script config moments cut t Silent op fits goes due own next = inl (inl (due refl))
-waits_by_mode script config moments cut t Collecting op fits goes due own next =
-    inl (inr (Collect, next Collect fits, tt))
-waits_by_mode script config moments cut t Asked None fits goes due own next = absurd (let none = fits.0 in cc)
-waits_by_mode script config moments cut t Asked (Some o) fits goes due own next = inl (inr (o, next o refl, fits.2))
-waits_by_mode script config moments cut t Lacking None fits goes due own next = absurd (let none = fits.0 in cc)
-waits_by_mode script config moments cut t Lacking (Some o) fits goes due own next =
-    inl (inr (o, next o refl, lacking_stops o fits.2))
-waits_by_mode script config moments cut t (Ended e) op fits goes due own next = absurd (goes tt)
+waits_by_mode script log config moments cut t Due op fits looks goes due own next = inl (inl (due refl))
+waits_by_mode script log config moments cut t Silent op fits looks goes due own next = inl (inl (due refl))
+waits_by_mode script log config moments cut t Collecting op fits looks goes due own next =
+    inl (inr (Collect, next Collect fits, inl refl))
+waits_by_mode script log config moments cut t Asked None fits looks goes due own next = absurd (let none = fits.0 in cc)
+waits_by_mode script log config moments cut t Asked (Some o) fits looks goes due own next =
+    inl (inr (o, next o refl, inr (looks tt)))
+waits_by_mode script log config moments cut t Lacking None fits looks goes due own next = absurd (let none = fits.0 in cc)
+waits_by_mode script log config moments cut t Lacking (Some o) fits looks goes due own next =
+    inl (inr (o, next o refl, inr (looks tt)))
+waits_by_mode script log config moments cut t (Ended e) op fits looks goes due own next = absurd (goes tt)
 
 -- so now is a safepoint, where a run is at one
 pub safe_now : {script : Script} {config : Config} {disk : OnDisk} {v : View} {states : List ThreadState}
     {journal : List Journal} → TableStands true script config disk v states
     → (rest : RestMoments script v.log states config journal)
-    → IsSafepoint script config rest.have.moments (now v.log states)
+    → IsSafepoint script v.log config rest.have.moments (now v.log states)
 safe_now {script} {config} {v} {states} table rest t open_ = elim (slice_get_cases states t).1 [
   | inl w ↦
       let s : ThreadState = w.0 in
@@ -70,7 +74,8 @@ safe_now {script} {config} {v} {states} table rest t open_ = elim (slice_get_cas
         | inl gone ↦ absurd (let wrong : true ≡ false = sym (gone_here states t s at ∙ gone.1) ∙ open_ in cc)
         | inr not ↦ not.0
       ] in
-      waits_by_mode script config rest.have.moments (now v.log states) t s.mode s.op st.fits goes
+      waits_by_mode script v.log config rest.have.moments (now v.log states) t s.mode s.op st.fits
+      (λ again. looks_now t table s.op (st.looks again)) goes
       (λ owes. subst (IsDue config) same (table.due t s at owes))
       (λ may. elim (rest.own t s at may) [
         | inl due ↦ inl (subst (IsDue config) same due)

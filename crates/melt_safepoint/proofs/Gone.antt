@@ -82,7 +82,7 @@ gone_lacks false {old} {t} held {need} {s} was lacks no_room holds is =
 -- and at which moment
 gone_safe : (told : Bool) {script : Script} {config : Config} {shown : Shown} {forced : ℕ} {old : Row} {t need : ℕ}
     → (lacks : LacksWords told script config shown forced old t need) → (tells : told ≡ true)
-    → IsSafepoint script config (lacks.safe tells).have.moments (now old.view.log old.states)
+    → IsSafepoint script old.view.log config (lacks.safe tells).have.moments (now old.view.log old.states)
 gone_safe true lacks tells = safe_now lacks.stands.table (lacks.safe tells)
 gone_safe false lacks tells = absurd (let wrong : false ≡ true = tells in cc)
 

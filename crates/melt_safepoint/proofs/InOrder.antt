@@ -12,16 +12,19 @@ use Rattle.std.proofs.lemmas.Option.{slice_get_cases, slice_get_within, same_Som
 use Rattle.melt_model.proofs.Histories.{slice_get-append_left, slice_get-append_seam}
 use Rattle.melt_model.specs.declared.config.Config.{Config}
 use Rattle.melt_model.specs.declared.history.Entry.{Entry}
+use Rattle.melt_model.specs.declared.operations.Op.{Op}
+use Rattle.melt_model.specs.declared.operations.Op.TheVariants.{Collect}
 use Rattle.melt_model.specs.declared.operations.Reply.{Reply}
 use Rattle.melt_model.specs.declared.reports.Journal.{Journal}
 use Rattle.melt_model.specs.declared.reports.ThreadEnd.TheVariants as end
-use Rattle.melt_trace.specs.Script.{Script}
+use Rattle.melt_trace.specs.Script.{Script, operations}
+use Rattle.melt_core.specs.Stages.{LooksAtStop}
 use Rattle.melt_safepoint.specs.declared.thread.Mode.{Mode}
 use Rattle.melt_safepoint.specs.declared.thread.Mode.TheVariants.{Ended}
 use Rattle.melt_safepoint.specs.declared.thread.ThreadState.{ThreadState}
 use Rattle.melt_safepoint.specs.Asked.{collections}
 use Rattle.melt_safepoint.specs.Cuts.{AreMoments, CountsBy, Cut, IsAmong, IsCut, IsMoment, LacksRoom, Moment, NotAfter}
-use Rattle.melt_safepoint.specs.Cuts.{IsSafepoint, Occasion}
+use Rattle.melt_safepoint.specs.Cuts.{IsDue, IsSafepoint, Occasion}
 use Rattle.melt_safepoint.specs.Cuts.{collection, collections_among, due_by, is_collection, no_room, replies_at}
 use Rattle.melt_safepoint.specs.Cuts.{replies_by}
 use Rattle.melt_safepoint.specs.Endings.{GoneIn, HaveMoments, gone_in, has_gone, now}
@@ -29,7 +32,7 @@ use Rattle.melt_safepoint.specs.Modes.{HadNoRoom, IsEnded}
 use Rattle.melt_safepoint.specs.Threads.{Later, replies_of}
 use Rattle.melt_safepoint.proofs.Asked.{asked_same, collections_same}
 use Rattle.melt_safepoint.proofs.Cuts.{IsCollectedAt_later, IsCut_later, LacksRoom_later, gone_here}
-use Rattle.melt_safepoint.proofs.Cuts.{gone_now, gone_past, replies_here, replies_past}
+use Rattle.melt_safepoint.proofs.Cuts.{gone_now, gone_past, registers_by, replies_here, replies_past}
 use Rattle.melt_safepoint.proofs.Threads.{get_set_other, get_set_same, later_set, replies_other, replies_same}
 
 -- ---- one moment after another
@@ -142,6 +145,23 @@ none_set states t s after at room u x there none = elim (cases_eq u t) [
   | inr other ↦ sym (get_set_other states t u after other) ∙ there
 ]
 
+-- a thread waits at the moment, by the history at the moment
+abbrev WaitsBy : Script → Config → Cut → ℕ → List Entry → Type 0
+WaitsBy script config cut t h = IsDue config (cut.replies t)
+    ⊎ ((op : Op) × (slice_get (operations script t) (cut.replies t) ≡ Some op)
+    × ((op ≡ Collect) ⊎ LooksAtStop (registers_by script cut h t) op))
+
+-- a safepoint stays one
+safe_later : {script : Script} {log : List Entry} (more : List Entry) {config : Config} {moments : List Moment}
+    (cut : Cut) → cut.entries ≤ length log → IsSafepoint script log config moments cut
+    → IsSafepoint script (log ++ more) config moments cut
+safe_later {script} {log} more {config} cut within safe t alive =
+    let history : take cut.entries (log ++ more) ≡ take cut.entries log = take-append-le cut.entries log more within in
+    elim (safe t alive) [
+      | inl waits ↦ inl (subst (WaitsBy script config cut t) (sym history) waits)
+      | inr had ↦ inr had
+    ]
+
 -- moments stay moments, where the threads that had no room then get no further reply
 are_later : {script : Script} {log : List Entry} (more : List Entry) {states after : List ThreadState} {config : Config}
     {journal : List Journal} {moments : List Moment} → Later states after
@@ -154,7 +174,7 @@ are_later {script} {log} more {states} {after} {config} {journal} {moments} late
   each = λ i m at. moment_later script log config journal (collections_among (take i moments)) m.cut more later
       (gone_then log states m.cut (past i m at)) m.of
       (λ t held_words need is. same t held_words need (i, (m, at, is))) (are.each i m at);
-  safe = are.safe;
+  safe = λ i m at. safe_later more m.cut (past i m at).entries (are.safe i m at);
   counts = λ i m at. counted_same script config (replies_of states) (replies_of after) m.cut
       (replies_later m.cut later (is_cut_of script log config journal (collections_among (take i moments)) m.cut
       (replies_of states) m.of (are.each i m at)).few) (are.counts i m at);
@@ -219,7 +239,7 @@ pub moments_push : {script : Script} {log : List Entry} {replies : ℕ → List 
     → AreMoments script log replies config journal moments
     → ((k : ℕ) (e : Journal) → slice_get journal k ≡ Some e → slice_get later k ≡ Some e)
     → IsMoment script log replies config later (length journal) m.cut m.of
-    → IsSafepoint script config moments m.cut → CountsBy script config replies m.cut (length journal)
+    → IsSafepoint script log config moments m.cut → CountsBy script config replies m.cut (length journal)
     → ((i : ℕ) (x : Moment) → slice_get moments i ≡ Some x → NotAfter x.cut m.cut)
     → ((t held_words need : ℕ) → IsAmong moments (no_room t held_words need) → m.cut.ended t ≡ true)
     → collections_among (moments ++ m ∷ []) ≡ length later
@@ -243,10 +263,10 @@ moments_push {script} {log} {replies} {config} journal later {moments} m are lon
             (subst (λ (k : ℕ). IsMoment script log replies config later k m.cut m.of) (here i new.0) is)
       ];
       safe = λ i x at. elim (push_cases moments m i x at) [
-        | inl old ↦ subst (λ (ms : List Moment). IsSafepoint script config ms x.cut)
+        | inl old ↦ subst (λ (ms : List Moment). IsSafepoint script log config ms x.cut)
             (sym (take-append-le i moments (m ∷ []) (omega (arith, old.0)))) (are.safe i x old.1)
-        | inr new ↦ subst (λ (y : Moment). IsSafepoint script config (take i (moments ++ m ∷ [])) y.cut) new.1
-            (subst (λ (ms : List Moment). IsSafepoint script config ms m.cut)
+        | inr new ↦ subst (λ (y : Moment). IsSafepoint script log config (take i (moments ++ m ∷ [])) y.cut) new.1
+            (subst (λ (ms : List Moment). IsSafepoint script log config ms m.cut)
             (sym (ap (λ (k : ℕ). take k (moments ++ m ∷ [])) new.0 ∙ take-append_seam moments (m ∷ []))) safe)
       ];
       counts = λ i x at. elim (push_cases moments m i x at) [
@@ -324,7 +344,7 @@ gone_already {states} have t held_words need among =
 pub moments_collected : {script : Script} {log : List Entry} {states : List ThreadState} {config : Config}
     (journal : List Journal) (entry : Journal) (have : HaveMoments script log states config journal)
     → IsMoment script log (replies_of states) config (journal ++ entry ∷ []) (length journal) (now log states) collection
-    → IsSafepoint script config have.moments (now log states)
+    → IsSafepoint script log config have.moments (now log states)
     → CountsBy script config (replies_of states) (now log states) (length journal)
     → HaveMoments script log states config (journal ++ entry ∷ [])
 moments_collected {script} {log} {states} {config} journal entry have is safe counts =
@@ -354,7 +374,7 @@ moments_collected {script} {log} {states} {config} journal entry have is safe co
 pub last_moment : {script : Script} {log : List Entry} {states : List ThreadState} {config : Config}
     (journal : List Journal) (entry : Journal) (have : HaveMoments script log states config journal)
     (is : IsMoment script log (replies_of states) config (journal ++ entry ∷ []) (length journal) (now log states)
-    collection) (safe : IsSafepoint script config have.moments (now log states))
+    collection) (safe : IsSafepoint script log config have.moments (now log states))
     (counts : CountsBy script config (replies_of states) (now log states) (length journal))
     → (moments_collected journal entry have is safe counts).moments
     ≡ have.moments ++ record { cut = now log states; of = collection } ∷ []
@@ -366,7 +386,7 @@ pub moments_gone : {script : Script} {log : List Entry} {states : List ThreadSta
     (journal : List Journal) (t held_words need : ℕ) {s : ThreadState} → slice_get states t ≡ Some s
     → (IsEnded s.mode → ⊥) → (have : HaveMoments script log states config journal)
     → LacksRoom script log (replies_of states) config (now log states) t held_words need
-    → IsSafepoint script config have.moments (now log states)
+    → IsSafepoint script log config have.moments (now log states)
     → CountsBy script config (replies_of states) (now log states) (length journal)
     → HaveMoments script log (set states t (record s { mode = Ended (end.OutOfHeap held_words need) })) config journal
 moments_gone {script} {log} {states} {config} journal t held_words need {s} at goes have lacks safe counts =

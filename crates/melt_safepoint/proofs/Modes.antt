@@ -24,7 +24,7 @@ use Rattle.melt_safepoint.specs.declared.thread.Mode.TheVariants.{Ended}
 use Rattle.melt_safepoint.specs.Cuts.{IsDue}
 use Rattle.melt_safepoint.specs.Run.{LoadsNext}
 use Rattle.melt_safepoint.specs.Threads.{DueBy, with_first, replies_of, Later, TakesReply}
-use Rattle.melt_safepoint.specs.Modes.{HadNoRoom, owes_silent, owes, mode_for, MayGo, IsEnded, FitsMode, Waits, words_lacked_by}
+use Rattle.melt_safepoint.specs.Modes.{CallsAgain, HadNoRoom, owes_silent, owes, mode_for, MayGo, IsEnded, FitsMode, Waits, words_lacked_by}
 use Rattle.melt_safepoint.specs.Endings.{EndsSo, HaveMoments, IsLostBy}
 use Rattle.melt_safepoint.proofs.Cuts.{replies_here}
 use Rattle.melt_safepoint.proofs.InOrder.{HaveMoments_later, none_set}
@@ -72,6 +72,12 @@ ended_fits Asked o over = absurd over
 ended_fits Lacking o over = absurd over
 ended_fits (Ended e) o over = tt
 
+-- and makes no call again
+pub ended_again : (mode : Mode) → IsEnded mode → CallsAgain mode → ⊥
+ended_again Asked over again = over
+ended_again Lacking over again = over
+ended_again mode over again = again
+
 -- no refusal leaves a silent collection to come
 pub refused_owes : (r : Refusal) → owes_silent (mode_for r) ≡ false
 refused_owes (refusal.Pause pause.Asked) = refl
@@ -97,6 +103,17 @@ told_fits s after reply takes =
       | inr rest ↦ elim rest [
         | inl due ↦ subst (λ (m : Mode). FitsMode m after.op) (sym due) tt
         | inr ended ↦ subst (λ (m : Mode). FitsMode m after.op) (sym ended.0) tt
+      ]
+    ]
+
+-- and it makes no call again
+pub told_again : {s after : ThreadState} {reply : Reply} → TakesReply s after reply → CallsAgain after.mode → ⊥
+told_again {s} {after} takes again =
+    elim takes.fits [
+      | inl runs ↦ subst CallsAgain runs.0 again
+      | inr rest ↦ elim rest [
+        | inl due ↦ subst CallsAgain due again
+        | inr ended ↦ subst CallsAgain ended.0 again
       ]
     ]
 

@@ -9,7 +9,7 @@ use Rattle.std.proofs.lemmas.List.{take-append-drop, get_or_past}
 use Rattle.std.proofs.lemmas.List.Elements.{recursion_from_All}
 use Rattle.std.proofs.lemmas.List.Sums.{sum-map, sum_by-cons}
 use Rattle.std.proofs.lemmas.Option.{slice_get_cases}
-use Rattle.std.specs.Prelude.{Bool, map, sum, if◌then◌else◌, Option, None, Some, slice_get}
+use Rattle.std.specs.Prelude.{Bool, map, sum, if◌then◌else◌, Option, None, Some, IfSome, slice_get}
 use Rattle.std.specs.List.{AllByRecursion}
 use Rattle.melt_model.specs.Alive.{Held, words_of, CostsSum}
 use Rattle.melt_model.specs.Thread.{own_from, own, registers_after, value_in, Transcript}
@@ -18,6 +18,7 @@ use Rattle.melt_model.specs.declared.history.Entry.{Entry}
 use Rattle.melt_model.specs.declared.history.Value.{Value}
 use Rattle.melt_model.specs.declared.history.Value.TheVariants.{Nil}
 use Rattle.melt_model.specs.declared.operations.Op.{Op}
+use Rattle.melt_model.specs.declared.operations.Op.TheVariants as op
 use Rattle.melt_model.specs.declared.operations.Reply.{Reply}
 use Rattle.melt_model.specs.declared.reports.Journal.{Journal}
 use Rattle.melt_model.proofs.Histories.{slice_get-append_seam}
@@ -25,6 +26,7 @@ use Rattle.melt_model.proofs.Transcripts.{Transcript_so_far, registers_so_far, o
 use Rattle.melt_trace.specs.Script.{Script, operations}
 use Rattle.melt_scion.specs.declared.registers.Registers.{Registers}
 use Rattle.melt_scion.specs.Heaps.{OnDisk}
+use Rattle.melt_core.specs.Stages.{LooksAtStop}
 use Rattle.melt_core.specs.Views.{View, value, values_of, held_values}
 use Rattle.melt_core.proofs.Values.{get_or_replicate}
 use Rattle.melt_safepoint.specs.declared.thread.Mode.{Mode}
@@ -34,7 +36,7 @@ use Rattle.melt_safepoint.specs.Needs.{NeedsWords}
 use Rattle.melt_safepoint.specs.Asked.{collections, total}
 use Rattle.melt_safepoint.specs.Counts.{CountsCollections, answers}
 use Rattle.melt_safepoint.specs.Cuts.{CountsBy, Cut, EndsWithCollect, IsCut, IsCutAt, IsDue, IsMoment, LacksRoom}
-use Rattle.melt_safepoint.specs.Cuts.{collection, due_by, is_due, replies_at, replies_by}
+use Rattle.melt_safepoint.specs.Cuts.{collection, due_by, is_due, registers_at, replies_at, replies_by}
 use Rattle.melt_safepoint.specs.Threads.{with_first, HadCollect, OweAfterCollects, owing, replies_of}
 use Rattle.melt_safepoint.specs.Modes.{owes_silent, FitsMode, IsEnded, owes}
 use Rattle.melt_safepoint.specs.Endings.{gone_in, has_gone, now}
@@ -318,6 +320,30 @@ next_op {script} {states} t {s} {o} table at next =
     ap (λ (x : Option Op). with_first x s.cursor.operations) (sym next) ∙ (table.each t s at).to_come in
     ap (λ (rs : List Reply). slice_get (operations script t) (length rs)) (replies_here states t s at)
     ∙ first_left (operations script t) (length s.replies.items) o s.cursor.operations to_come
+
+-- what an operation does at the stop word by the registers of its thread, it does by the history
+looks_same : (a b : ℕ → Value) (o : Option Op) → ((r : ℕ) → a r ≡ b r) → IfSome o (LooksAtStop a)
+    → IfSome o (LooksAtStop b)
+looks_same a b None same looks = tt
+looks_same a b (Some (op.New dst refs nums)) same looks = tt
+looks_same a b (Some (op.Load dst src i)) same looks = λ none. looks (same src ∙ none)
+looks_same a b (Some (op.Store obj i src)) same looks = λ none. looks (same obj ∙ none)
+looks_same a b (Some (op.Get src j)) same looks = λ none. looks (same src ∙ none)
+looks_same a b (Some (op.Put obj j v)) same looks = λ none. looks (same obj ∙ none)
+looks_same a b (Some (op.GLoad dst g)) same looks = tt
+looks_same a b (Some (op.GStore g src)) same looks = tt
+looks_same a b (Some (op.Same c d)) same looks = absurd looks
+looks_same a b (Some (op.Copy dst src)) same looks = absurd looks
+looks_same a b (Some (op.Drop r)) same looks = absurd looks
+looks_same a b (Some op.Collect) same looks = absurd looks
+
+pub looks_now : {script : Script} {config : Config} {disk : OnDisk} {v : View} {states : List ThreadState} (t : ℕ)
+    → TableStands true script config disk v states → (o : Option Op) → IfSome o (LooksAtStop (value v t))
+    → IfSome o (LooksAtStop (registers_at script v.log (now v.log states) t))
+looks_now {script} {v} {states} t table o looks =
+    let by : List Entry → ℕ → Value = λ h. registers_by script (now v.log states) h t in
+    looks_same (value v t) (registers_at script v.log (now v.log states) t) o
+    (λ r. sym (registers_now t r table) ∙ ap (λ (h : List Entry). by h r) (sym (take-length v.log))) looks
 
 -- now: the next operation of a thread needs more words than there are beside those that registers hold
 pub lacks_room : {script : Script} {config : Config} {disk : OnDisk} {v : View} {states : List ThreadState} (t need : ℕ)

@@ -1,5 +1,5 @@
--- Which operations a call that paused can be of: one that was asked to stop looks at the stop word, and one that found
--- no room makes an object, or loads one.
+-- Which operations a call that paused can be of: it looks at the stop word, and one that found no room makes an object,
+-- or loads one.
 use Rattle.std.proofs.Common.{◌≡◌, ◌≢◌, ℕ, refl, sym, ◌∙◌, ap, subst}
 use Rattle.std.specs.Prelude.{Option, None, Some, IfSome, IsSome}
 use Rattle.melt_model.specs.declared.operations.Op.{Op}
@@ -18,41 +18,13 @@ use Rattle.melt_core.specs.declared.call.Stage.TheVariants as stage
 use Rattle.melt_core.specs.declared.call.Task.{Task}
 use Rattle.melt_core.specs.declared.call.Task.TheVariants.{LoadGlobal, Make, Use}
 use Rattle.melt_core.specs.Advances.{Pauses}
-use Rattle.melt_core.specs.Stages.{Fits, Lacks, LoadsAt, SearchesOn, task_of}
-use Rattle.melt_core.specs.Views.{View, call_of, stage_in}
+use Rattle.melt_core.specs.Stages.{Fits, Lacks, LoadsAt, LooksAtStop, SearchesOn, task_of}
+use Rattle.melt_core.specs.Views.{View, call_of, stage_in, value}
 use Rattle.melt_scion.specs.Heaps.{register_in}
 use Rattle.melt_safepoint.specs.Modes.{FitsMode, mode_for}
-use Rattle.melt_safepoint.specs.Needs.{CanLackRoom, StopsAtSafepoint}
+use Rattle.melt_safepoint.specs.Needs.{CanLackRoom}
 
--- an operation with a task stops at a safepoint
-task_stops : (o : Op) (task : Task) → task_of o ≡ Some task → StopsAtSafepoint o
-task_stops (op.New dst refs nums) task is = tt
-task_stops (op.Load dst src i) task is = tt
-task_stops (op.Store obj i src) task is = tt
-task_stops (op.Get src j) task is = tt
-task_stops (op.Put obj j v) task is = tt
-task_stops (op.GLoad dst g) task is = tt
-task_stops (op.GStore g src) task is = tt
-task_stops (op.Same a b) task is = absurd (cc)
-task_stops (op.Copy dst src) task is = absurd (cc)
-task_stops (op.Drop r) task is = absurd (cc)
-task_stops op.Collect task is = tt
-
--- and so does one that can lack room
-pub lacking_stops : (o : Op) → CanLackRoom o → StopsAtSafepoint o
-lacking_stops (op.New dst refs nums) can = tt
-lacking_stops (op.Load dst src i) can = tt
-lacking_stops (op.Store obj i src) can = absurd can
-lacking_stops (op.Get src j) can = absurd can
-lacking_stops (op.Put obj j v) can = absurd can
-lacking_stops (op.GLoad dst g) can = tt
-lacking_stops (op.GStore g src) can = absurd can
-lacking_stops (op.Same a b) can = absurd can
-lacking_stops (op.Copy dst src) can = absurd can
-lacking_stops (op.Drop r) can = absurd can
-lacking_stops op.Collect can = absurd can
-
--- one that makes an object can
+-- an operation that makes an object can lack room
 make_lacks : (o : Op) (dst : ℕ) (shape : Shape) → task_of o ≡ Some (Make dst shape) → CanLackRoom o
 make_lacks (op.New dst refs nums) r shape is = tt
 make_lacks (op.Load dst src i) r shape is = tt
@@ -163,7 +135,6 @@ pub paused_fits : (v w : View) (t : ℕ) (o : Op) (cause : Pause) → o ≢ op.C
 paused_fits v w t o pause.Asked other fits pauses = (
   refl,
   λ is. other (let same : Some o ≡ Some op.Collect = is in cc),
-  task_stops o pauses.pauses.0.0 pauses.pauses.0.1.0,
 )
 paused_fits v w t o (pause.Space need) other fits pauses = (
   refl,
@@ -176,3 +147,9 @@ paused_fits v w t o pause.Forward other fits pauses = (
   search_by (register_in v.held t) o (call_of v t) pauses.search (is_of (register_in v.held t) o (call_of v t) fits)
       pauses.searches,
 )
+
+-- whatever the cause, it looked at the stop word
+pub paused_looks : (v w : View) (t : ℕ) (o : Op) (cause : Pause) → Pauses v w t o cause → LooksAtStop (value v t) o
+paused_looks v w t o pause.Asked pauses = pauses.looks
+paused_looks v w t o (pause.Space need) pauses = pauses.looks
+paused_looks v w t o pause.Forward pauses = pauses.looks

@@ -66,7 +66,8 @@ pub Table_runs : {told : Bool} {script : Script} {config : Config} {disk : OnDis
     → TableStands told script config disk v (set states t (record s { mode = Running }))
 Table_runs {told} {script} {config} {v} {states} t {s} table at goes op no_call =
     let runs : ThreadStands told script v t (record s { mode = Running }) =
-    mode_stands v Running (table.each t s at) goes (λ over. over) refl refl op (λ c is. absurd (cc)) in
+    mode_stands v Running (table.each t s at) goes (λ over. over) refl refl op (λ again. absurd again)
+    (λ c is. absurd (cc)) in
     Table_moves table at goes table.stands (nothing_keeps v t)
     (same_moves config v states s Running (λ owes. absurd (let wrong : false ≡ true = owes in cc))
     (λ over. over) refl runs)
@@ -104,6 +105,7 @@ gone_stands {w} {t} e st dropped no_call =
     (λ tells. told_so w (Ended e) (st.replies_stand tells) (ap (λ (x : View). x.log) dropped.only) (inl tt))
     (λ over. dropped.here)
     (λ c is. absurd (let none : call_of w t ≡ None = ap (λ (x : View). call_of x t) dropped.only ∙ no_call in cc)) tt
+    (λ again. absurd again)
 
 -- a thread ends, and its registers are dropped
 pub Table_gone : {told : Bool} {script : Script} {config : Config} {disk : OnDisk} {v w : View}

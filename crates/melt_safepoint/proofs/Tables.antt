@@ -9,6 +9,7 @@ use Rattle.std.specs.Prelude.{Bool, Option, None, Some, IfSome, IsSome, All, sli
 use Rattle.std.specs.Prelude.{◌⊎◌}
 use Rattle.melt_model.specs.History.{last, Legal}
 use Rattle.melt_model.specs.Standing.{Stands}
+use Rattle.melt_model.specs.Thread.{value_in}
 use Rattle.melt_model.specs.declared.config.Config.{Config}
 use Rattle.melt_model.specs.declared.history.Act.{Act}
 use Rattle.melt_model.specs.declared.history.Entry.{Entry}
@@ -24,7 +25,8 @@ use Rattle.melt_scion.specs.Heaps.{OnDisk}
 use Rattle.melt_core.specs.declared.call.Call.{Call}
 use Rattle.melt_core.specs.Answering.{with_entry}
 use Rattle.melt_core.specs.Changed.{stopped}
-use Rattle.melt_core.specs.Views.{View, values_of, call_of, IsQuiet, Standing, state}
+use Rattle.melt_core.specs.Stages.{LooksAtStop}
+use Rattle.melt_core.specs.Views.{View, value, values_of, call_of, IsQuiet, Standing, state}
 use Rattle.melt_core.proofs.Disks.{stands_untold}
 use Rattle.melt_core.specs.declared.answer.Pause.{Pause}
 use Rattle.melt_core.specs.declared.answer.Pause.TheVariants as pause
@@ -38,15 +40,15 @@ use Rattle.melt_safepoint.specs.Cuts.{IsDue}
 use Rattle.melt_safepoint.specs.Run.{LoadsNext}
 use Rattle.melt_safepoint.specs.Threads.{DueBy, with_first, left, replies_of, to_reply, Later, TakesReply, AllWait}
 use Rattle.melt_safepoint.specs.Threads.{most_forwards}
-use Rattle.melt_safepoint.specs.Modes.{owes_silent, mode_for, MayGo, HadNoRoom, IsEnded, FitsMode}
+use Rattle.melt_safepoint.specs.Modes.{owes_silent, mode_for, CallsAgain, MayGo, HadNoRoom, IsEnded, FitsMode}
 use Rattle.melt_safepoint.specs.Endings.{EndsSo, HaveMoments}
 use Rattle.melt_safepoint.proofs.Cuts.{replies_here, first_left}
 use Rattle.melt_safepoint.proofs.InOrder.{HaveMoments_later, none_set}
-use Rattle.melt_safepoint.proofs.PausedOps.{paused_fits}
+use Rattle.melt_safepoint.proofs.PausedOps.{paused_fits, paused_looks}
 use Rattle.melt_safepoint.proofs.Threads.{get_set_same, get_set_other, set_got, drop_next, take_next, replies_other}
 use Rattle.melt_safepoint.proofs.Threads.{replies_same, later_set, to_reply_set, to_reply_one}
 use Rattle.melt_safepoint.proofs.Modes.{ends_later, ends_open, paused_cases, lost_ends, ended_fits, refused_owes}
-use Rattle.melt_safepoint.proofs.Modes.{lost_so, told_fits, told_due, first_counts, ends_untold}
+use Rattle.melt_safepoint.proofs.Modes.{ended_again, lost_so, told_again, told_fits, told_due, first_counts, ends_untold}
 use Rattle.melt_safepoint.specs.Tables.{RepliesStand, ThreadStands, TableStands, ThreadWaits, ThreadGoes, ThreadRefused}
 use Rattle.melt_safepoint.specs.Tables.{ThreadLost, ThreadTold, IsReady, ThreadStep, Renewed}
 use Rattle.melt_safepoint.proofs.Telling.{with_more, with_length, with_own, told_with, Stands_answers}
@@ -56,8 +58,9 @@ pub stands_so : {told : Bool} {script : Script} {v : View} (w : View) {t : ℕ} 
     → ThreadStands told script v t s → (told ≡ true → RepliesStand script w t (record s { mode = mode }))
     → (IsEnded mode → values_of w t ≡ replicate 16 Nil)
     → ((c : Call) → call_of w t ≡ Some c → (mode ≡ Running) × (s.op ≡ Some c.op) × (c.op ≢ Collect))
-    → FitsMode mode s.op → ThreadStands told script w t (record s { mode = mode })
-stands_so w mode st is_told dropped call fits = record {
+    → FitsMode mode s.op → (CallsAgain mode → IfSome s.op (LooksAtStop (value w t)))
+    → ThreadStands told script w t (record s { mode = mode })
+stands_so w mode st is_told dropped call fits looks = record {
   to_come = st.to_come;
   within = st.within;
   none_left = st.none_left;
@@ -65,10 +68,17 @@ stands_so w mode st is_told dropped call fits = record {
   dropped = dropped;
   call = call;
   fits = fits;
+  looks = looks;
   in_range = st.in_range;
   globals = st.globals;
   room = st.room;
 }
+
+-- what an operation does at the stop word, where the registers of its thread stand for the same
+looks_so : (v w : View) (t : ℕ) (o : Option Op) → values_of w t ≡ values_of v t → IfSome o (LooksAtStop (value v t))
+    → IfSome o (LooksAtStop (value w t))
+looks_so v w t o values looks =
+    subst (λ (rs : List Value). IfSome o (LooksAtStop (value_in rs))) (sym values) looks
 
 -- what a thread is told by a history that is the same
 pub told_so : {script : Script} {v : View} (w : View) {t : ℕ} {s : ThreadState} (mode : Mode) (is : RepliesStand script
@@ -98,9 +108,10 @@ other_told {script} {t} {u} {s} act differ others grown is = record {
 other_stands : {told : Bool} {script : Script} {v w : View} {t u : ℕ} {s : ThreadState} (act : Option Act) → u ≢ t
     → KeepsOthers v w t → w.log ≡ with_entry t v.log act → ThreadStands told script v u s
     → ThreadStands told script w u s
-other_stands {w} {u} {s} act differ others grown st =
+other_stands {v} {w} {u} {s} act differ others grown st =
     stands_so w s.mode st (λ tells. other_told act differ others grown (st.replies_stand tells))
     (λ over. others.values u differ ∙ st.dropped over) (λ c is. st.call c (sym (others.calls u differ) ∙ is)) st.fits
+    (λ again. looks_so v w u s.op (others.values u differ) (st.looks again))
 
 -- the registers of a thread that has not ended hold what it was told
 held_now : (script : Script) (v : View) (t : ℕ) (s : ThreadState) (is : RepliesStand script v t s) → (IsEnded s.mode
@@ -111,12 +122,13 @@ held_now script v t s is runs = elim is.in_registers [ inl over ↦ absurd (runs
 -- a thread of which at most the mode changes
 pub mode_stands : {told : Bool} {script : Script} {v : View} (w : View) {t : ℕ} {s : ThreadState} (mode : Mode)
     → ThreadStands told script v t s → (IsEnded s.mode → ⊥) → (IsEnded mode → ⊥) → w.log ≡ v.log
-    → values_of w t ≡ values_of v t → FitsMode mode s.op
+    → values_of w t ≡ values_of v t → FitsMode mode s.op → (CallsAgain mode → IfSome s.op (LooksAtStop (value v t)))
     → ((c : Call) → call_of w t ≡ Some c → (mode ≡ Running) × (s.op ≡ Some c.op) × (c.op ≢ Collect))
     → ThreadStands told script w t (record s { mode = mode })
-mode_stands {script} {v} w {t} {s} mode st runs waits history values fits call =
+mode_stands {script} {v} w {t} {s} mode st runs waits history values fits looks call =
     stands_so w mode st (λ tells. told_so w mode (st.replies_stand tells) history
     (inr (held_now script v t s (st.replies_stand tells) runs ∙ sym values))) (λ over. absurd (waits over)) call fits
+    (λ again. looks_so v w t s.op values (looks again))
 
 -- What an event of a thread shows of it, so that all threads stand after the event: its entry, if it has one, and the
 -- replies that it got.
@@ -222,7 +234,15 @@ same_moves {told} {script} config v {w} states {t} s mode due free history stand
       entries = let same : length w.log ≡ length v.log = ap length history in omega arith;
     }
 
--- a thread that waits for a collection has not ended
+-- a thread that waits for a collection makes no call again
+waits_again : (v w : View) (t : ℕ) (s after : ThreadState) (mode : Mode) → ThreadWaits v w t s after mode
+    → CallsAgain mode → ⊥
+waits_again v w t s after mode waits again = elim waits.before [
+  | inl own ↦ subst CallsAgain own.2 again
+  | inr due ↦ subst CallsAgain due.1 again
+]
+
+-- and has not ended
 waits_open : (v w : View) (t : ℕ) (s after : ThreadState) (mode : Mode) → ThreadWaits v w t s after mode → IsEnded mode
     → ⊥
 waits_open v w t s after mode waits over = elim waits.before [
@@ -250,7 +270,8 @@ waits_moves {told} {script} config {v} {w} states {t} {s} {after} {mode} due st 
       | inr due ↦ let known : s.mode ≡ Running = (st.call c is).0 in let is_due : s.mode ≡ Due = due.0 in absurd (cc)
     ] in
     let stands : ThreadStands told script (stopped v) t (record s { mode = mode }) =
-    mode_stands (stopped v) mode st runs waiting refl refl fits (λ c is. absurd (call c is)) in
+    mode_stands (stopped v) mode st runs waiting refl refl fits
+    (λ again. absurd (waits_again v w t s after mode waits again)) (λ c is. absurd (call c is)) in
     subst (λ (y : ThreadState). ThreadEvent told script config v w states t s y) (sym waits.only)
     (same_moves config v states s mode owes waiting (ap (λ (x : View). x.log) waits.stop)
     (subst (λ (x : View). ThreadStands told script x t (record s { mode = mode })) (sym waits.stop) stands))
@@ -262,7 +283,7 @@ goes_moves : {told : Bool} {script : Script} (config : Config) {v w : View} (sta
     → ThreadEvent told script config v w states t s after
 goes_moves {told} {script} config {v} {w} states {t} {s} due st runs goes =
     let stands : ThreadStands told script w t (record s { mode = s.mode }) =
-    mode_stands w s.mode st runs runs goes.history goes.values st.fits
+    mode_stands w s.mode st runs runs goes.history goes.values st.fits st.looks
     (λ c is. let same : goes.call ≡ c = same_Some goes.call c (sym goes.flight ∙ is) in (
       goes.running,
       goes.op ∙ ap (λ (x : Call). Some x.op) same,
@@ -285,10 +306,10 @@ paused_view v w t o pause.Forward pauses = (pauses.call, pauses.own.history, pau
 -- a thread that waits for its call to be made again
 again_moves : {told : Bool} {script : Script} (config : Config) {v : View} (w : View) (states : List ThreadState)
     {t : ℕ} {s : ThreadState} (mode : Mode) → ThreadStands told script v t s → (IsEnded s.mode → ⊥)
-    → (mode ≡ Asked) ⊎ (mode ≡ Lacking) → FitsMode mode s.op
+    → (mode ≡ Asked) ⊎ (mode ≡ Lacking) → FitsMode mode s.op → IfSome s.op (LooksAtStop (value v t))
     → (call_of w t ≡ None) × (w.log ≡ v.log) × (values_of w t ≡ values_of v t)
     → ThreadEvent told script config v w states t s (record s { mode = mode })
-again_moves {told} {script} config {v} w states {t} {s} mode st runs waits fits beyond =
+again_moves {told} {script} config {v} w states {t} {s} mode st runs waits fits looks beyond =
     let waiting : IsEnded mode → ⊥ = λ over. elim waits [
       | inl asked ↦ subst IsEnded asked over
       | inr lacking ↦ subst IsEnded lacking over
@@ -298,7 +319,7 @@ again_moves {told} {script} config {v} w states {t} {s} mode st runs waits fits 
       | inr lacking ↦ let wrong : false ≡ true = sym (ap owes_silent lacking) ∙ is in cc
     ]) in
     let stands : ThreadStands told script w t (record s { mode = mode }) =
-    mode_stands w mode st runs waiting beyond.1 beyond.2 fits
+    mode_stands w mode st runs waiting beyond.1 beyond.2 fits (λ again. looks)
     (λ c is. absurd (let none : call_of w t ≡ None = beyond.0 in cc)) in
     same_moves config v states s mode owes waiting beyond.1 stands
 
@@ -317,6 +338,8 @@ refused_moves {told} {script} config {v} {w} states {t} {s} stands st runs refus
     subst (λ (y : ThreadState). ThreadEvent told script config v w states t s y) (sym refused.only)
     (again_moves config w states mode st runs (paused_cases refused.cause)
     (subst (FitsMode mode) (sym refused.next) fits)
+    (subst (λ (o : Option Op). IfSome o (LooksAtStop (value v t))) (sym refused.next)
+    (paused_looks v w t refused.op refused.cause refused.pauses))
     (paused_view v w t refused.op refused.cause refused.pauses))
 
 -- a thread that still lacks room stands as before
@@ -332,7 +355,7 @@ Table_lacks {told} {script} {config} {disk} {v} {w} {states} {t} {s} table at la
     let same : record s { mode = Lacking } ≡ s =
     ap {B = ThreadState} (λ (m : Mode). record s { mode = m }) (sym lacking) in
     let moves : ThreadEvent told script config v w states t s (record s { mode = Lacking }) =
-    again_moves config w states Lacking st runs (inr refl) fits beyond in
+    again_moves config w states Lacking st runs (inr refl) fits (st.looks (subst CallsAgain (sym lacking) tt)) beyond in
     subst (TableStands told script config disk w) (set_got states t s at)
     (subst (λ (y : ThreadState). TableStands told script config disk w (set states t y)) same
     (Table_moves table at runs stands others moves))
@@ -347,6 +370,7 @@ lost_stands {told} {finish} {w} {t} {s} st lost =
     (λ tells. told_so w (mode_for lost.refusal) (st.replies_stand tells) lost.history (inl over)) (λ ended.
     lost.dropped)
     (λ c is. absurd (let none : call_of w t ≡ None = lost.call in cc)) (ended_fits (mode_for lost.refusal) s.op over)
+    (λ again. absurd (ended_again (mode_for lost.refusal) over again))
 
 -- all threads stand after the end of one that could not read the disk
 pub lost_moves : {told : Bool} {script : Script} (config : Config) {finish : ℕ} {v w : View} (states : List ThreadState)
@@ -451,6 +475,7 @@ told_stands {told} {script} {w} {t} {s} {after} st runs before beyond globals go
       dropped = got.dropped;
       call = λ c is. absurd (let none : call_of w t ≡ None = got.call in cc);
       fits = told_fits s after got.reply takes;
+      looks = λ again. absurd (told_again takes again);
       in_range = subst (λ (n : ℕ). IfSome after.op (InRange n)) st.globals takes.in_range;
       globals = takes.globals ∙ st.globals;
       room = omega (arith, count, sizes, fewer, room, capacity);
@@ -663,7 +688,8 @@ Table_renewed {told} {script} {config} {v} {w} {states} table renewed = record {
         | inl over ↦ inl over
         | inr same ↦ inr (same ∙ sym (renewed.values t))
       ])) (λ over. renewed.values t ∙ st.dropped over)
-      (λ c is. absurd (let none : call_of w t ≡ None = renewed.quiet t in cc)) st.fits;
+      (λ c is. absurd (let none : call_of w t ≡ None = renewed.quiet t in cc)) st.fits
+      (λ again. looks_so v w t s.op (renewed.values t) (st.looks again));
   own = subst (All (λ (e : Entry). e.thread < length script.programs)) (sym renewed.history) table.own;
   due = table.due;
   ends = λ t s at. subst (λ (h : List Entry). EndsSo told script h states config t s.mode) (sym renewed.history)
@@ -698,6 +724,7 @@ Table_untold told script config disk v states table = record {
         dropped = st.dropped;
         call = st.call;
         fits = st.fits;
+        looks = st.looks;
         in_range = st.in_range;
         globals = st.globals;
         room = st.room;

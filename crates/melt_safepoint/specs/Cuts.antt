@@ -14,8 +14,9 @@ use Rattle.melt_model.specs.declared.operations.Op.TheVariants.{Collect}
 use Rattle.melt_model.specs.declared.operations.Reply.{Reply}
 use Rattle.melt_model.specs.declared.reports.Journal.{Journal}
 use Rattle.melt_trace.specs.Script.{Script, operations}
+use Rattle.melt_core.specs.Stages.{LooksAtStop}
 use Rattle.melt_safepoint.specs.Asked.{collects, collections, total}
-use Rattle.melt_safepoint.specs.Needs.{NeedsWords, StopsAtSafepoint}
+use Rattle.melt_safepoint.specs.Needs.{NeedsWords}
 
 -- A moment of a run: how many entries the history had then, how many replies each thread had got, and which threads
 -- had ended.
@@ -154,11 +155,12 @@ pub record CountsBy (script : Script) (config : Config) (replies : ℕ → List 
   pub bounded : made ≤ collections script config (replies_at replies cut) (length script.programs)
       + 3 * (replies_by cut (length script.programs) + length script.programs)
 
--- A thread waits at the moment: a silent collection is due after its last reply, or its next operation stops at a
--- safepoint.
-abbrev pub WaitsAt : Script → Config → Cut → ℕ → Type 0
-WaitsAt script config cut t = IsDue config (cut.replies t)
-    ⊎ ((op : Op) × (slice_get (operations script t) (cut.replies t) ≡ Some op) × StopsAtSafepoint op)
+-- A thread waits at the moment: a silent collection is due after its last reply, or its next operation is a collection,
+-- or looks at the stop word by what registers hold then.
+abbrev pub WaitsAt : Script → List Entry → Config → Cut → ℕ → Type 0
+WaitsAt script log config cut t = IsDue config (cut.replies t)
+    ⊎ ((op : Op) × (slice_get (operations script t) (cut.replies t) ≡ Some op)
+    × ((op ≡ Collect) ⊎ LooksAtStop (registers_at script log cut t) op))
 
 -- Its last reply is that to a `collect`, and the moment of that collection, which is among these, has the history of
 -- this one.
@@ -173,9 +175,9 @@ pub record HadOwn (script : Script) (moments : List Moment) (cut : Cut) (t : ℕ
 
 -- The moment is a safepoint: each thread that has not ended waits, or has just had its own collection, after which
 -- nothing but collections was done.
-abbrev pub IsSafepoint : Script → Config → (earlier : List Moment) → Cut → Type 0
-IsSafepoint script config earlier cut = (t : ℕ) → cut.ended t ≡ false
-    → WaitsAt script config cut t ⊎ HadOwn script earlier cut t
+abbrev pub IsSafepoint : Script → List Entry → Config → (earlier : List Moment) → Cut → Type 0
+IsSafepoint script log config earlier cut = (t : ℕ) → cut.ended t ≡ false
+    → WaitsAt script log config cut t ⊎ HadOwn script earlier cut t
 
 -- What is said of a moment, by what happened there, where so many collections had been made before it.
 abbrev pub IsMoment : Script → List Entry → (ℕ → List Reply) → Config → List Journal → ℕ → Cut → Occasion → Type 0
@@ -195,7 +197,7 @@ pub record AreMoments (script : Script) (log : List Entry) (replies : ℕ → Li
   pub each : (i : ℕ) (m : Moment) → slice_get moments i ≡ Some m
       → IsMoment script log replies config journal (collections_among (take i moments)) m.cut m.of
   pub safe : (i : ℕ) (m : Moment) → slice_get moments i ≡ Some m
-      → IsSafepoint script config (take i moments) m.cut
+      → IsSafepoint script log config (take i moments) m.cut
   pub counts : (i : ℕ) (m : Moment) → slice_get moments i ≡ Some m
       → CountsBy script config replies m.cut (collections_among (take i moments))
   pub order : (i j : ℕ) (m n : Moment) → i < j → slice_get moments i ≡ Some m → slice_get moments j ≡ Some n

@@ -9,7 +9,7 @@ use Rattle.melt_core.specs.declared.answer.Refusal.TheVariants as refusal
 use Rattle.melt_safepoint.specs.declared.thread.Mode.{Mode}
 use Rattle.melt_safepoint.specs.declared.thread.Mode.TheVariants.{Running, Due, Silent, Collecting, Asked, Lacking}
 use Rattle.melt_safepoint.specs.declared.thread.Mode.TheVariants.{Ended}
-use Rattle.melt_safepoint.specs.Needs.{CanLackRoom, StopsAtSafepoint}
+use Rattle.melt_safepoint.specs.Needs.{CanLackRoom}
 use Rattle.melt_safepoint.specs.Run.{is_lost}
 
 -- a thread that neither waits nor has ended
@@ -28,13 +28,13 @@ HadNoRoom (Ended (end.OutOfHeap held_words need)) = Unit {0}
 HadNoRoom mode = ⊥
 
 -- What the mode of a thread says of its next operation: one that runs has one; one that waits for its own collection
--- has that; one that was asked to stop has one that stops at a safepoint, and one that lacked room one that can.
+-- has that; one that was asked to stop has another, and one that lacked room one that can.
 abbrev pub FitsMode : Mode → Option Op → Type 0
 FitsMode Running op = IsSome op
 FitsMode Due op = Unit {0}
 FitsMode Silent op = Unit {0}
 FitsMode Collecting op = op ≡ Some Collect
-FitsMode Asked op = IsSome op × (op ≢ Some Collect) × IfSome op StopsAtSafepoint
+FitsMode Asked op = IsSome op × (op ≢ Some Collect)
 FitsMode Lacking op = IsSome op × (op ≢ Some Collect) × IfSome op CanLackRoom
 FitsMode (Ended e) op = Unit {0}
 

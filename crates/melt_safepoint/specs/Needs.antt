@@ -35,11 +35,3 @@ IsLoad o = ⊥
 abbrev pub CanLackRoom : Op → Type 0
 CanLackRoom (op.New dst refs nums) = Unit {0}
 CanLackRoom o = IsLoad o
-
--- The operation stops at a safepoint: it is a collection, or looks at the stop word before its call. Three look at
--- nothing but registers, and stop nowhere.
-abbrev pub StopsAtSafepoint : Op → Type 0
-StopsAtSafepoint (op.Same a b) = ⊥
-StopsAtSafepoint (op.Copy dst src) = ⊥
-StopsAtSafepoint (op.Drop r) = ⊥
-StopsAtSafepoint o = Unit {0}

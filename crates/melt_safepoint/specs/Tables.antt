@@ -21,8 +21,8 @@ use Rattle.melt_core.specs.Advances.{KeepsOthers, Pauses}
 use Rattle.melt_core.specs.Answering.{Answers, with_entry}
 use Rattle.melt_core.specs.Changed.{stopped, HasRoomForEntry}
 use Rattle.melt_core.specs.Epochs.{HasDropped}
-use Rattle.melt_core.specs.Stages.{events_left}
-use Rattle.melt_core.specs.Views.{View, call_of, stage_in, values_of, Standing, IsQuiet}
+use Rattle.melt_core.specs.Stages.{LooksAtStop, events_left}
+use Rattle.melt_core.specs.Views.{View, call_of, stage_in, value, values_of, Standing, IsQuiet}
 use Rattle.melt_model.specs.declared.history.Act.{Act}
 use Rattle.melt_safepoint.specs.declared.thread.Mode.{Mode}
 use Rattle.melt_safepoint.specs.declared.thread.Mode.TheVariants.{Running, Due, Silent, Collecting, Asked, Ended}
@@ -31,7 +31,7 @@ use Rattle.melt_safepoint.specs.Needs.{IsLoad}
 use Rattle.melt_safepoint.specs.Cuts.{IsDue}
 use Rattle.melt_safepoint.specs.Shown.{Underlies}
 use Rattle.melt_safepoint.specs.Threads.{left, to_reply, most_forwards, TakesReply}
-use Rattle.melt_safepoint.specs.Modes.{MayGo, IsEnded, FitsMode, owes_silent, mode_for, Waits, jobs}
+use Rattle.melt_safepoint.specs.Modes.{MayGo, IsEnded, CallsAgain, FitsMode, owes_silent, mode_for, Waits, jobs}
 use Rattle.melt_safepoint.specs.Endings.{EndsSo, IsLostBy}
 
 -- What a thread was told stands in the history: these replies to its first operations. What it holds by them is in its
@@ -41,7 +41,8 @@ pub record RepliesStand (script : Script) (v : View) (t : ℕ) (s : ThreadState)
   pub stands : Stands v.log t (take (length s.replies.items) (operations script t)) s.replies.items registers
   pub in_registers : IsEnded s.mode ⊎ (registers ≡ values_of v t)
 
--- A thread of the script has these replies to its first operations, and the others are to come.
+-- A thread of the script has these replies to its first operations, and the others are to come. One whose call is to be
+-- made again looks at the stop word by it.
 pub record ThreadStands (told : Bool) (script : Script) (v : View) (t : ℕ) (s : ThreadState) : Type 0 where
   pub to_come : left s ≡ drop (length s.replies.items) (operations script t)
   pub within : length s.replies.items + length (left s) ≡ length (operations script t)
@@ -50,6 +51,7 @@ pub record ThreadStands (told : Bool) (script : Script) (v : View) (t : ℕ) (s 
   pub dropped : IsEnded s.mode → values_of v t ≡ replicate 16 Nil
   pub call : (c : Call) → call_of v t ≡ Some c → (s.mode ≡ Running) × (s.op ≡ Some c.op) × (c.op ≢ Collect)
   pub fits : FitsMode s.mode s.op
+  pub looks : CallsAgain s.mode → IfSome s.op (LooksAtStop (value v t))
   pub in_range : IfSome s.op (InRange script.globals)
   pub globals : s.cursor.globals ≡ script.globals
   pub room : length s.replies.items + length (left s) ≤ vec_capacity s.replies

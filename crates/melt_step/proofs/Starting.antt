@@ -38,7 +38,7 @@ use Rattle.melt_safepoint.specs.declared.thread.Mode.TheVariants.{Running, Asked
 use Rattle.melt_safepoint.specs.Threads.{most_forwards, AreNewThreads, IsNewThread}
 use Rattle.melt_safepoint.specs.Passing.{NoneOwn}
 use Rattle.melt_model.specs.Config.{InRanges}
-use Rattle.melt_safepoint.specs.Modes.{ForCollection, owes_silent, Waits, FitsMode}
+use Rattle.melt_safepoint.specs.Modes.{CallsAgain, ForCollection, owes_silent, Waits, FitsMode}
 use Rattle.melt_safepoint.proofs.Shown.{bare}
 use Rattle.melt_safepoint.proofs.Starting.{ends_new}
 use Rattle.melt_safepoint.specs.Tables.{KnowsStop, ThreadStands, TableStands}
@@ -158,6 +158,10 @@ Thread_new told script {entries} t {heap} {rest} {s} at_rest new_rest below new 
         | inl runs ↦ subst (λ (m : Mode). FitsMode m s.op) (sym runs.0) runs.1
         | inr over ↦ subst (λ (m : Mode). FitsMode m s.op) (sym over.0) tt
       ];
+      looks = λ again. absurd (elim new.mode [
+        | inl runs ↦ subst CallsAgain runs.0 again
+        | inr over ↦ subst CallsAgain over.0 again
+      ]);
       in_range = new.in_range;
       globals = new.knows;
       room = omega (arith, ap length new.replies, ap length new.to_come, new.capacity);

@@ -41,7 +41,7 @@ returns-in-Store-clause-called g c =
     (λ (o : Op). IsCalled read.image read.faults words.start.began.told heap.scions finish c.args.m.now c.store.new.m o
     c.store.result) (sym c.in-Store.is)
     (plain_called read.image read.faults words.start.began.told heap.scions finish c.args.m.now c.store.new.m
-    (Store c.in-Store.obj c.in-Store.i c.in-Store.src) 3 c.store.result tt c.store.ensures.plain)
+    (Store c.in-Store.obj c.in-Store.i c.in-Store.src) 3 c.store.result c.store.ensures.plain)
 
 pub returns-in-Get-clause-called : goal.returns-in-Get-clause-called
 returns-in-Get-clause-called g c =
@@ -53,7 +53,7 @@ returns-in-Get-clause-called g c =
     (λ (o : Op). IsCalled read.image read.faults words.start.began.told heap.scions finish c.args.m.now c.get.new.m o
     c.get.result) (sym c.in-Get.is)
     (plain_called read.image read.faults words.start.began.told heap.scions finish c.args.m.now c.get.new.m
-    (Get c.in-Get.src c.in-Get.j) 3 c.get.result tt c.get.ensures.plain)
+    (Get c.in-Get.src c.in-Get.j) 3 c.get.result c.get.ensures.plain)
 
 pub returns-in-Put-clause-called : goal.returns-in-Put-clause-called
 returns-in-Put-clause-called g c =
@@ -65,7 +65,7 @@ returns-in-Put-clause-called g c =
     (λ (o : Op). IsCalled read.image read.faults words.start.began.told heap.scions finish c.args.m.now c.put.new.m o
     c.put.result) (sym c.in-Put.is)
     (plain_called read.image read.faults words.start.began.told heap.scions finish c.args.m.now c.put.new.m
-    (Put c.in-Put.obj c.in-Put.j c.in-Put.v) 3 c.put.result tt c.put.ensures.plain)
+    (Put c.in-Put.obj c.in-Put.j c.in-Put.v) 3 c.put.result c.put.ensures.plain)
 
 pub returns-in-GStore-clause-called : goal.returns-in-GStore-clause-called
 returns-in-GStore-clause-called g c =
@@ -77,7 +77,7 @@ returns-in-GStore-clause-called g c =
     (λ (o : Op). IsCalled read.image read.faults words.start.began.told heap.scions finish c.args.m.now c.gstore.new.m o
     c.gstore.result) (sym c.in-GStore.is)
     (plain_called read.image read.faults words.start.began.told heap.scions finish c.args.m.now c.gstore.new.m
-    (GStore c.in-GStore.g c.in-GStore.src) 2 c.gstore.result tt c.gstore.ensures.plain)
+    (GStore c.in-GStore.g c.in-GStore.src) 2 c.gstore.result c.gstore.ensures.plain)
 
 pub returns-in-GLoad-clause-called : goal.returns-in-GLoad-clause-called
 returns-in-GLoad-clause-called g c =

@@ -23,7 +23,7 @@ returns-in-Running-Some-Collect-clause-works g c script works =
     let next : c.args.state.now.op ≡ Some Collect = search rules in
     subst (λ (x : ThreadState). Works script words c.wait_for.new.m x) (sym c.wait_for.ensures.waits)
     (asked_works script words c.args.m.now c.wait_for.new.m c.args.state.now Collecting works c.requires.goes
-    c.wait_for.ensures.seated c.wait_for.ensures.asked next tt)
+    c.wait_for.ensures.seated c.wait_for.ensures.asked next (λ again. again) tt)
 
 pub returns-in-Running-Some-Collect-clause-goes_on : goal.returns-in-Running-Some-Collect-clause-goes_on
 returns-in-Running-Some-Collect-clause-goes_on g c script works =
@@ -92,7 +92,7 @@ returns-in_default-clause-works g c script works =
     subst (λ (x : ThreadState). Works script words c.wait_for-in_default.new.m x)
     (sym c.wait_for-in_default.ensures.waits)
     (asked_works script words c.args.m.now c.wait_for-in_default.new.m c.args.state.now Silent works c.requires.goes
-    c.wait_for-in_default.ensures.seated c.wait_for-in_default.ensures.asked tt tt)
+    c.wait_for-in_default.ensures.seated c.wait_for-in_default.ensures.asked tt (λ again. again) tt)
 
 pub returns-in_default-clause-goes_on : goal.returns-in_default-clause-goes_on
 returns-in_default-clause-goes_on g c script works =

@@ -1,5 +1,7 @@
 use Rattle.std.proofs.Common.{◌≡◌, rules, ap}
-use Rattle.std.specs.Prelude.{Some}
+use Rattle.std.specs.Prelude.{Some, IfSome}
+use Rattle.melt_core.specs.Stages.{LooksAtStop}
+use Rattle.melt_model.specs.Thread.{value_in}
 use Rattle.melt_epoch.specs.declared.mutator.Mutator.{Mutator}
 use Rattle.melt_safepoint.specs.Modes.{FitsMode}
 use Rattle.melt_safepoint.specs.declared.thread.Mode.TheVariants.{Running, Lacking}
@@ -18,9 +20,10 @@ returns g c =
     search rules in
     let runs : state.mode ≡ Running = search rules in
     let fits : FitsMode Lacking state.op = search rules in
+    let looks : IfSome state.op (LooksAtStop (value_in m.values)) = search rules in
     record {
       thread = ap (λ (x : Mutator _). x.thread) is;
       may_start = refused_starts m n worker state there had is;
-      new = λ script. refused_new m n worker state there had is script runs fits;
+      new = λ script. refused_new m n worker state there had is script runs fits looks;
       lacks = refused_lacks m n worker state there had is;
     }
