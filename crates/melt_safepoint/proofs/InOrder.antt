@@ -152,10 +152,10 @@ WaitsBy script config cut t h = IsDue config (cut.replies t)
     × ((op ≡ Collect) ⊎ LooksAtStop (registers_by script cut h t) op))
 
 -- a safepoint stays one
-safe_later : {script : Script} {log : List Entry} (more : List Entry) {config : Config} {moments : List Moment}
+safe_later : {script : Script} (log more : List Entry) {config : Config} {moments : List Moment}
     (cut : Cut) → cut.entries ≤ length log → IsSafepoint script log config moments cut
     → IsSafepoint script (log ++ more) config moments cut
-safe_later {script} {log} more {config} cut within safe t alive =
+safe_later {script} log more {config} cut within safe t alive =
     let history : take cut.entries (log ++ more) ≡ take cut.entries log = take-append-le cut.entries log more within in
     elim (safe t alive) [
       | inl waits ↦ inl (subst (WaitsBy script config cut t) (sym history) waits)
@@ -174,7 +174,7 @@ are_later {script} {log} more {states} {after} {config} {journal} {moments} late
   each = λ i m at. moment_later script log config journal (collections_among (take i moments)) m.cut more later
       (gone_then log states m.cut (past i m at)) m.of
       (λ t held_words need is. same t held_words need (i, (m, at, is))) (are.each i m at);
-  safe = λ i m at. safe_later more m.cut (past i m at).entries (are.safe i m at);
+  safe = λ i m at. safe_later log more m.cut (past i m at).entries (are.safe i m at);
   counts = λ i m at. counted_same script config (replies_of states) (replies_of after) m.cut
       (replies_later m.cut later (is_cut_of script log config journal (collections_among (take i moments)) m.cut
       (replies_of states) m.of (are.each i m at)).few) (are.counts i m at);
