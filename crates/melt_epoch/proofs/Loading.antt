@@ -11,7 +11,7 @@ use Rattle.melt_model.specs.declared.history.Entry.{Entry}
 use Rattle.melt_model.specs.declared.history.Slot.{Slot}
 use Rattle.melt_model.specs.declared.history.Slot.TheVariants as slot
 use Rattle.melt_model.specs.declared.history.Value.{Value}
-use Rattle.melt_model.specs.declared.operations.Op.TheVariants.{Collect}
+use Rattle.melt_model.specs.declared.operations.Op.TheVariants.{GLoad}
 use Rattle.melt_word.specs.Words.{cost_of}
 use Rattle.melt_word.specs.declared.header.Shape.{Shape}
 use Rattle.melt_word.specs.declared.reference.Ref as word
@@ -338,7 +338,7 @@ asked_load v w k some_ polls = record {
   was = (refl, polls);
   stays = record {
     sees = polls.0;
-    counts = (asked_plain v w [] Collect k some_ polls).counts;
+    counts = (asked_plain v w [] (GLoad 0 0) k some_ polls tt).counts;
     goes_on = ap is_bound (ap (λ (x : View). x.doing) polls.1);
   };
 }
