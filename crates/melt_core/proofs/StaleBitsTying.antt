@@ -153,6 +153,9 @@ module _ (t : ℕ) (act : Option Act) (u s w : Sight) (touches : Touches (length
         (inl other.1) (tied.watched x))
   ]
 
+  address_stays : (n : ℕ) → InUse s.maps n → InUse w.maps n
+  address_stays n is = (is.0, touches.names is.0 n is.1)
+
   -- a call that was about to pass the object passed it, or is still about to
   pending_later : (n : ℕ) → Pending s n → Passed w.log (length u.log) n ⊎ Pending w n
   pending_later n is = elim (eqb_tells is.thread t) [
@@ -186,6 +189,15 @@ module _ (t : ℕ) (act : Option Act) (u s w : Sight) (touches : Touches (length
         ]
       ]
 
+  -- what the entry gives has a header, and what was in use keeps its address
+  in_use_later : (n : ℕ) → Used w.log (length u.log) n → InUse w.maps n
+  in_use_later n used =
+      elim (used_before t s.log act (length u.log) n (subst (λ (h : List Entry). Used h (length u.log) n) touches.log
+      used)) [
+        | inl before ↦ address_stays n (tied.in_use n before)
+        | inr now ↦ let given = touches.gives n now.0 now.1 now.2 in (given.address, given.named)
+      ]
+
   -- an event that owes no more keeps the bit tied
   pub tied_later : Tied u w
   tied_later = record {
@@ -195,6 +207,9 @@ module _ (t : ℕ) (act : Option Act) (u s w : Sight) (touches : Touches (length
     cleared = cleared_later;
     stale = λ n stale. tied.stale n (touches.stale n stale);
     used = used_later;
+    in_use = in_use_later;
+    stays = λ n first. address_stays n (tied.stays n first);
+    homes = λ home. touches.homes home ∙ tied.homes home;
   }
 
 -- as it begins
@@ -204,11 +219,17 @@ tied_first u quiet = record {
   watched = λ t. subst (λ (g : Option Look). IfSome g (Watched (length u.log) u t)) (sym (ap look_of (quiet t))) tt;
   cleared = λ n fresh. inl fresh;
   stale = λ n stale. stale;
-  used = λ n in_use used. absurd (
-      let below : used.place < length u.log = gives_within u.log used.place n used.gives in
-      let from : length u.log ≤ used.place = used.from in
-      omega arith);
+  used = λ n in_use used. absurd (none_used n used);
+  in_use = λ n used. absurd (none_used n used);
+  stays = λ n is. is;
+  homes = λ home. refl;
 }
+  where
+    none_used : (n : ℕ) → Used u.log (length u.log) n → ⊥
+    none_used n used =
+        let below : used.place < length u.log = gives_within u.log used.place n used.gives in
+        let from : length u.log ≤ used.place = used.from in
+        omega arith
 
 -- as it ends, with no call in flight
 pub tied_tells : (u s : Sight)
@@ -225,6 +246,9 @@ tied_tells u s one quiet tied = record {
   ];
   stale = tied.stale;
   used = tied.used;
+  in_use = tied.in_use;
+  stays = tied.stays;
+  homes = tied.homes;
 }
   where
     since : (n : ℕ) → HasNoBit s n → HasNoBit u n ⊎ Passed s.log (length u.log) n

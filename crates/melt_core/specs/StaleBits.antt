@@ -138,22 +138,30 @@ pub record Watched (q : ℕ) (s : Sight) (thread : ℕ) (look : Look) : Type 0 w
   pub held : last (take moment s.log) slot ≡ value.Ref number
 
 -- What is kept from a first sight on. An object without the bit had none at first, or was passed since, or a call is
--- about to pass it. One with the bit had it at first. One that was used and is in use has none.
+-- about to pass it. One with the bit had it at first. One that was used and is in use has none; and it is in use, as is
+-- each that was at first, since nothing is collected meanwhile. Homes are those of the same objects.
 pub record Tied (u s : Sight) : Type 0 where
   pub since : length u.log ≤ length s.log
   pub watched : (t : ℕ) → IfSome (look_of (s.stage t)) (Watched (length u.log) s t)
   pub cleared : (n : ℕ) → HasNoBit s n → HasNoBit u n ⊎ (Passed s.log (length u.log) n ⊎ Pending s n)
   pub stale : (n : ℕ) → HasBit s n → HasBit u n
   pub used : (n : ℕ) → InUse s.maps n → Used s.log (length u.log) n → HasNoBit s n
+  pub in_use : (n : ℕ) → Used s.log (length u.log) n → InUse s.maps n
+  pub stays : (n : ℕ) → InUse u.maps n → InUse s.maps n
+  pub homes : (home : ℕ) → s.maps.home home ≡ u.maps.home home
 
 -- What that says where no call is in flight. An object without the bit had none at first, or was passed since: so it
 -- was passed if it had the bit at first, or was not in use. One that has the bit had it at first. One that was used
--- since and is in use has none.
+-- since and is in use has none; and it is in use, as is each that was at first. Homes are those of the same objects: so
+-- an object that has a home and no address had that home and no address at first.
 pub record BitsTold (u s : Sight) : Type 0 where
   pub since : (n : ℕ) → HasNoBit s n → HasNoBit u n ⊎ Passed s.log (length u.log) n
   pub passed : (n : ℕ) → HasNoBit s n → HasBit u n ⊎ (InUse u.maps n → ⊥) → Passed s.log (length u.log) n
   pub stale : (n : ℕ) → HasBit s n → HasBit u n
   pub used : (n : ℕ) → InUse s.maps n → Used s.log (length u.log) n → HasNoBit s n
+  pub in_use : (n : ℕ) → Used s.log (length u.log) n → InUse s.maps n
+  pub stays : (n : ℕ) → InUse u.maps n → InUse s.maps n
+  pub homes : (home : ℕ) → s.maps.home home ≡ u.maps.home home
 
 -- the thread has all its registers
 abbrev pub HasRegisters : View → ℕ → Type 0

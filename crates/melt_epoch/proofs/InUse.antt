@@ -93,6 +93,9 @@ module _ (maps : Maps) (s t : State) (formed : FormedWords maps s) (same : SameI
     passed = λ n fresh was. told.passed n ((bit_in_use h n false).1 fresh) was;
     stale = λ n stale. told.stale n ((bit_in_use h n true).1 stale);
     used = λ n in_use used. (bit_in_use h n false).0 (told.used n in_use used);
+    in_use = told.in_use;
+    stays = told.stays;
+    homes = told.homes;
   }
 
 -- the state stands for the history

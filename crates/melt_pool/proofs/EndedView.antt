@@ -2,6 +2,7 @@
 use Rattle.std.proofs.Common.{◌≡◌, ◌≢◌, ℕ, zero, suc, ◌+◌, ◌<◌, ◌≤◌, List, [], ◌∷◌, length, get_or, refl, sym, ◌∙◌, ap}
 use Rattle.std.proofs.Common.{◌-◌, ◌++◌, min, take, subst, arith, inl, inr, true, false}
 use Rattle.std.proofs.Math.ListN.{get_or-map, length-map}
+use Rattle.std.proofs.Math.Path.{fun_ext}
 use Rattle.std.proofs.lemmas.Bool.{cases_lt}
 use Rattle.std.proofs.lemmas.List.{ext_get_or, get_or_past, length-replicate}
 use Rattle.std.proofs.lemmas.List.Sums.{sum-map, sum_by-cons}
@@ -30,9 +31,9 @@ use Rattle.melt_scion.specs.declared.registers.Registers.{Registers}
 use Rattle.melt_scion.proofs.Reaching.{held_address}
 use Rattle.melt_scion.proofs.Starting.{sends_nothing}
 use Rattle.melt_core.specs.Made.{HasMade, made_words}
-use Rattle.melt_core.specs.StaleBits.{HasNoBit, Passed}
+use Rattle.melt_core.specs.StaleBits.{BitsTold, HasNoBit, Passed, Sight, sight}
 use Rattle.melt_core.specs.Views.{Counts, InUse, IsQuiet, Standing, View, call_of, claimed, claimed_in, held_value}
-use Rattle.melt_core.specs.Views.{held_values, maps, max_rest, registers_in, state, value, values_of}
+use Rattle.melt_core.specs.Views.{held_values, maps, max_rest, registers_in, stage_in, state, value, values_of}
 use Rattle.melt_core.proofs.Making.{hold_words}
 use Rattle.melt_core.proofs.Resting.{holds_shifts}
 use Rattle.melt_core.proofs.Values.{get_or_replicate, held_is, named_made, named_value, value_held}
@@ -177,6 +178,29 @@ module _ {R : Type 0} (image : R → Option (List ℕ)) (told : Bool) (heap new 
         names_of_heap heap (maps_at b) nameless
         (subst (λ (o : Option name_table.Names). HasNames o heap.maps (maps_at b)) (sym none)
         (λ a. refl, λ home. refl))
+
+    -- and so to what the stale bit is tied: nothing else of it is in names
+    begun_sight : sight v ≡ first_sight b
+    begun_sight = λ i. record {
+      log = h;
+      maps = begun_maps i;
+      word = fun_ext (λ a. sym (word_listed heap.space a)) i;
+      stage = fun_ext (λ t. ap stage_in (get_or_replicate (length registers) t None)) i;
+    }
+
+    ended_sight : sight w ≡ last_sight k ended.maps s
+    ended_sight = λ i. record {
+      log = k;
+      maps = ended_maps i;
+      word = word_at new.space;
+      stage = fun_ext (λ t. ap stage_in (ended_quiet t)) i;
+    }
+
+    -- what became of the stale bits
+    pub ended_bits : told ≡ true → BitsTold (sight v) (sight w)
+    ended_bits tells =
+        subst (λ (x : Sight). BitsTold x (sight w)) (sym begun_sight)
+        (subst (BitsTold (first_sight b)) (sym ended_sight) (ended.bits tells))
 
     -- what was in use is
     pub stays_in_use : (n : ℕ) → InUse (maps v) n → InUse ended.maps n

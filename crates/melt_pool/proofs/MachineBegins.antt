@@ -1,12 +1,15 @@
 -- A run of real threads whose mutators are ready may go through an epoch.
-use Rattle.std.proofs.Common.{◌≡◌, ℕ, ◌<◌, ◌≤◌, List, length, refl, sym, ◌∙◌, subst, arith, inl, inr}
+use Rattle.std.proofs.Common.{◌≡◌, ℕ, ◌<◌, ◌≤◌, List, length, refl, sym, ◌∙◌, ap, subst, arith, inl, inr}
 use Rattle.std.proofs.lemmas.Option.{slice_get_within}
-use Rattle.std.specs.Prelude.{Bool, IfSome, None, Option, Some}
+use Rattle.std.specs.Prelude.{Bool, true, IfSome, None, Option, Some}
 use Rattle.melt_model.specs.declared.config.Config.{Config}
 use Rattle.melt_model.specs.declared.history.Entry.{Entry}
 use Rattle.melt_trace.specs.Script.{Script}
 use Rattle.melt_scion.specs.declared.heap.Heap.{Heap}
 use Rattle.melt_scion.specs.declared.registers.Registers.{Registers}
+use Rattle.melt_core.specs.StaleBits.{sight}
+use Rattle.melt_core.specs.Views.{Standing, stage_in}
+use Rattle.melt_core.proofs.StaleBitsTying.{tied_first, tied_tells}
 use Rattle.melt_rule.specs.declared.began.Began.{Began}
 use Rattle.melt_epoch.specs.declared.mutator.Mutator.{Mutator}
 use Rattle.melt_safepoint.specs.Collections.{NoneForwarded}
@@ -55,6 +58,13 @@ none_runs shown first run none some =
             | inl paid ↦ subst (λ (u : ℕ). StandsBut u told script config shown run) paid begin.stands
             | inr it ↦ absurd (no_first it.0 it.1)
           ];
+      bits = λ told script config may is.
+          let stands : StandsBut _ told script config shown run =
+          (may_begin told script config shown first run may).stands in
+          let standing : Standing true stands.disk run.view =
+          subst (λ (c : Bool). Standing c stands.disk run.view) is stands.table.stands in
+          tied_tells (sight run.view) (sight run.view) ((standing.holds.tells refl).one_address)
+          (λ t. ap stage_in (stands.quiet t)) (tied_first (sight run.view) (λ t. ap stage_in (stands.quiet t)));
       rests = record {
         waits = λ t s at. absurd (let below = slice_get_within run.states t s at in omega (arith, below, none));
         asked = λ t s at. absurd (let below = slice_get_within run.states t s at in omega (arith, below, none));

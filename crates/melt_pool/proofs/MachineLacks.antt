@@ -32,8 +32,8 @@ use Rattle.melt_pool.specs.Parts.{IsNameless, parts_view}
 use Rattle.melt_pool.specs.Workers.{Brings, image_of}
 use Rattle.melt_pool.specs.declared.worker.Worker.{Worker}
 use Rattle.melt_pool.proofs.AtRest.{first_armed}
-use Rattle.melt_pool.proofs.EndedView.{ended_forwards, ended_globals, ended_made, ended_quiet, ended_stands}
-use Rattle.melt_pool.proofs.EndedView.{ended_under, ended_unheld, ended_words, registers_at}
+use Rattle.melt_pool.proofs.EndedView.{ended_bits, ended_forwards, ended_globals, ended_made, ended_quiet}
+use Rattle.melt_pool.proofs.EndedView.{ended_stands, ended_under, ended_unheld, ended_words, registers_at}
 use Rattle.melt_pool.proofs.Lacked.{NothingDone, lacked_from}
 use Rattle.melt_pool.proofs.LackedView.{disarmed_registers, lacked_marked, lacked_values, registers_left, same_each}
 use Rattle.melt_pool.proofs.ThreadsPassed.{brings_one, stands_there}
@@ -209,6 +209,9 @@ module _ {R : Type 0} (image : R → Option (List ℕ)) (faults : R → ℕ) (wo
             subst (λ (c : Bool). LacksWords c script config shown forced row t need) same
             (lacks_after script config forced
             (subst (λ (c : Bool). AwaitsCall c script config shown forced old t) (sym same) awaits));
+        bits = λ tells script config forced awaits is.
+            ended_bits (image_of image) told heap new h k finish registers ms lacked.seats nameless lacked.ended
+            (awaits.stands.told_is ∙ is);
         states = same_states;
         collector = refl;
       })

@@ -10,6 +10,7 @@ use Rattle.melt_scion.specs.declared.heap.Heap.{Heap}
 use Rattle.melt_scion.specs.declared.registers.Registers.{Registers}
 use Rattle.melt_core.specs.Advances.{TellsDisk}
 use Rattle.melt_core.specs.Made.{KeepsMade}
+use Rattle.melt_core.specs.StaleBits.{BitsTold, sight}
 use Rattle.melt_core.specs.Views.{IsQuiet, Standing, View, values_of}
 use Rattle.melt_rule.specs.declared.began.Began.{Began}
 use Rattle.melt_epoch.specs.Ends.{disk_of, unseated}
@@ -26,8 +27,8 @@ use Rattle.melt_pool.specs.Parts.{IsNameless, parts_view}
 use Rattle.melt_pool.specs.Workers.{image_of}
 use Rattle.melt_pool.specs.declared.worker.Worker.{Worker}
 use Rattle.melt_pool.proofs.AtRest.{first_armed}
-use Rattle.melt_pool.proofs.EndedView.{ended_forwards, ended_globals, ended_made, ended_quiet, ended_stands}
-use Rattle.melt_pool.proofs.EndedView.{ended_under, ended_values, ended_words, registers_at}
+use Rattle.melt_pool.proofs.EndedView.{ended_bits, ended_forwards, ended_globals, ended_made, ended_quiet}
+use Rattle.melt_pool.proofs.EndedView.{ended_stands, ended_under, ended_values, ended_words, registers_at}
 use Rattle.melt_pool.proofs.LackedView.{disarmed_registers, registers_left}
 use Rattle.melt_pool.proofs.RunsEpoch.{LeavesRun, runs_epoch}
 use Rattle.melt_pool.proofs.ThreadsPassed.{stands_there}
@@ -143,6 +144,9 @@ module _ {R : Type 0} (image : R → Option (List ℕ)) (faults : R → ℕ) (wo
         subst (λ (rs : List Registers). KeepsMade v (parts_view new k rs)) (sym same_registers)
         (ended_made (image_of image) told heap new h k finish registers ms passed.seats nameless passed.ended disk so
         tells);
+    bits = λ tells.
+        subst (λ (rs : List Registers). BitsTold (sight v) (sight (parts_view new k rs))) (sym same_registers)
+        (ended_bits (image_of image) told heap new h k finish registers ms passed.seats nameless passed.ended tells);
     words = refl;
     every = refl;
     told = refl;

@@ -10,6 +10,7 @@ use Rattle.melt_scion.specs.Heaps.{OnDisk}
 use Rattle.melt_scion.specs.declared.heap.Heap.{Heap}
 use Rattle.melt_scion.specs.declared.registers.Registers.{Registers}
 use Rattle.melt_core.specs.Made.{KeepsMade}
+use Rattle.melt_core.specs.StaleBits.{BitsTold, sight}
 use Rattle.melt_core.specs.Views.{Standing}
 use Rattle.melt_rule.specs.declared.began.Began.{Began}
 use Rattle.melt_epoch.specs.declared.mutator.Mutator.{Mutator}
@@ -63,13 +64,15 @@ if_some None P each = tt
 if_some (Some t) P each = each t refl
 
 -- What an epoch leaves of a run but its threads: over each disk over which it stood before it shows, over some disk,
--- this history with the values of these mutators. Whatever words were made meanwhile are in use.
+-- this history with the values of these mutators. Whatever words were made meanwhile are in use, and what became of
+-- stale bits is told.
 pub record LeavesRun {R : Type 0} (shown : Shown) (old new : Row) (h : List Entry) (ns : List (Mutator (Worker R)))
     : Type 0 where
   pub shows : (disk : OnDisk) → Underlies old.told shown.end shown.image disk → disk.free_homes ≡ []
       → Standing old.told disk old.view → (later : OnDisk) × Underlies old.told shown.end shown.image later
       × (later.free_homes ≡ []) × ShowsAfter old.told later old.view new.view h ns
   pub made : old.told ≡ true → (disk : OnDisk) → Standing true disk old.view → KeepsMade old.view new.view
+  pub bits : old.told ≡ true → BitsTold (sight old.view) (sight new.view)
   pub words : new.words ≡ old.words
   pub every : new.every ≡ old.every
   pub told : new.told ≡ old.told
@@ -180,6 +183,7 @@ module _ {R : Type 0} (image : R → Option (List ℕ)) (faults : R → ℕ) (wo
             let that : (old.told ≡ told) × MayBegin old.told script config shown first old =
             begins_as told script config may in
             subst (λ (c : Bool). RunStands c script config shown new) that.0 (stands_after script config that.1);
+        bits = λ told script config may is. leaves.bits ((begins_as told script config may).0 ∙ is);
         rests = rests_well some.1 some.2 it.1;
         less = no_more some.1 some.2 it.1;
         first_less = if_some first (λ t. to_do new.states < to_do old.states)

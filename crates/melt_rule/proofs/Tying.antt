@@ -153,6 +153,9 @@ module _ (u : Sight) (h : List Entry) (maps : Maps) (s : State) (before after : 
     ];
     stale = λ n bit. tied.stale n (same_bit after before n true bit);
     used = λ n in_use used. same_bit before after n false (tied.used n in_use used);
+    in_use = tied.in_use;
+    stays = tied.stays;
+    homes = tied.homes;
   }
 
 -- where each is at the stage at which it was

@@ -29,7 +29,7 @@ use Rattle.melt_safepoint.specs.declared.ending.Left.{Left}
 use Rattle.melt_safepoint.proofs.Gathering.{same_value}
 
 -- a word is the same where the words are
-same_word : (space after : SpaceWords) (k : ℕ) → after.list ≡ space.list → word_at after k ≡ word_at space k
+pub same_word : (space after : SpaceWords) (k : ℕ) → after.list ≡ space.list → word_at after k ≡ word_at space k
 same_word space after zero same = refl
 same_word space after (suc k) same = ap (λ (words : List ℕ). get_or words k 0) same
 

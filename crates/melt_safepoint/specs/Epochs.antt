@@ -1,7 +1,8 @@
 -- An epoch of a run: its threads go on, each as far as it can.
-use Rattle.std.specs.Prelude.{◌≡◌, ℕ, ◌<◌, ◌≤◌, ◌⊎◌, Bool, List, map, sum, slice_get, Option, None, Some, IfSome}
+use Rattle.std.specs.Prelude.{◌≡◌, ℕ, ◌<◌, ◌≤◌, ◌⊎◌, Bool, true, List, map, sum, slice_get, Option, None, Some, IfSome}
 use Rattle.melt_model.specs.declared.config.Config.{Config}
 use Rattle.melt_trace.specs.Script.{Script}
+use Rattle.melt_core.specs.StaleBits.{BitsTold, sight}
 use Rattle.melt_safepoint.specs.Collections.{NoneForwarded}
 use Rattle.melt_safepoint.specs.Passing.{NoneOwn, OneWaits}
 use Rattle.melt_safepoint.specs.Rows.{AwaitsCall, LacksWords, Row, RunStands}
@@ -31,19 +32,23 @@ pub record RestsWell (states : List ThreadState) : Type 0 where
   pub asked : (t : ℕ) (s : ThreadState) → slice_get states t ≡ Some s → s.mode ≡ Asked → OneWaits states
 
 -- All threads went on until they wait or have ended. They have no more to do than before, and where the call of one was
--- made first, less.
+-- made first, less. What became of each stale bit meanwhile is told by the history.
 pub record RunsEpoch (shown : Shown) (first : Option ℕ) (old new : Row) : Type 0 where
   pub keeps : (told : Bool) (script : Script) (config : Config) → MayRunEpoch told script config shown first old
       → RunStands told script config shown new
+  pub bits : (told : Bool) (script : Script) (config : Config) → MayRunEpoch told script config shown first old
+      → told ≡ true → BitsTold (sight old.view) (sight new.view)
   pub rests : RestsWell new.states
   pub less : to_do new.states ≤ to_do old.states
   pub first_less : IfSome first (λ t. to_do new.states < to_do old.states)
   pub collector : new.collector ≡ old.collector
 
--- The call that was made first lacked so many words, and nothing else was done.
+-- The call that was made first lacked so many words, and nothing else was done. Stale bits are told as above.
 pub record LacksFirst (shown : Shown) (t need : ℕ) (old new : Row) : Type 0 where
   pub keeps : (told : Bool) (script : Script) (config : Config) (forced : ℕ)
       → AwaitsCall told script config shown forced old t → LacksWords told script config shown forced new t need
+  pub bits : (told : Bool) (script : Script) (config : Config) (forced : ℕ)
+      → AwaitsCall told script config shown forced old t → told ≡ true → BitsTold (sight old.view) (sight new.view)
   pub states : new.states ≡ old.states
   pub collector : new.collector ≡ old.collector
 

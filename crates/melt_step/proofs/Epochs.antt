@@ -8,6 +8,7 @@ use Rattle.melt_scion.specs.Heaps.{OnDisk}
 use Rattle.melt_scion.specs.declared.heap.Heap.{Heap}
 use Rattle.melt_core.specs.declared.machine.Rest.{Rest}
 use Rattle.melt_core.specs.Epochs.{AtRest, HasFinished, NamesWithin, core_of}
+use Rattle.melt_core.specs.StaleBits.{BitsTold, Sight, sight}
 use Rattle.melt_core.specs.Views.{IsQuiet, Standing, View, names_in, view}
 use Rattle.melt_safepoint.specs.Collections.{ShowsHeap}
 use Rattle.std.proofs.Math.Nat.{min-eq_left}
@@ -40,6 +41,7 @@ use Rattle.melt_safepoint.proofs.Tables.{Table_renewed}
 use Rattle.melt_safepoint.proofs.WordsMade.{made_same}
 use Rattle.melt_safepoint.specs.Resting.{NamesHeap}
 use Rattle.melt_step.proofs.Resting.{names_kept}
+use Rattle.melt_step.proofs.Tied.{finished_sight}
 use Rattle.melt_safepoint.proofs.Finishing.{finished_marked}
 
 -- what a core shows that begins with a heap is that heap
@@ -237,11 +239,19 @@ first_less old mid new None same less = tt
 first_less old mid new (Some t) same less =
     subst (λ (xs : List ThreadState). to_do new.states < to_do xs) same less
 
+-- what became of stale bits after it began did so before
+renews_bits : {old mid : Row} (new : Row) → Renews old mid → BitsTold (sight mid.view) (sight new.view)
+    → BitsTold (sight old.view) (sight new.view)
+renews_bits {old} {mid} new r bits =
+    subst (λ (s : Sight). BitsTold s (sight new.view)) (finished_sight old.view mid.view r.finished) bits
+
 -- so it has ended as it did after its beginning
 pub renews_ends : (shown : Shown) (old mid new : Row) (first lacks : Option ℕ) → Renews old mid
     → EndsEpoch shown first mid new lacks → EndsEpoch shown first old new lacks
 renews_ends shown old mid new first None r ends = record {
   keeps = λ told script config may. ends.keeps told script config (renews_may told script config shown first r may);
+  bits = λ told script config may is.
+      renews_bits new r (ends.bits told script config (renews_may told script config shown first r may) is);
   rests = ends.rests;
   less = subst (λ (xs : List ThreadState). to_do new.states ≤ to_do xs) r.states ends.less;
   first_less = first_less old mid new first r.states ends.first_less;
@@ -250,6 +260,8 @@ renews_ends shown old mid new first None r ends = record {
 renews_ends shown old mid new None (Some need) r ends = absurd ends
 renews_ends shown old mid new (Some t) (Some need) r ends = record {
   keeps = λ told script config forced awaits. ends.keeps told script config forced (renews_awaits r awaits);
+  bits = λ told script config forced awaits is.
+      renews_bits new r (ends.bits told script config forced (renews_awaits r awaits) is);
   states = ends.states ∙ r.states;
   collector = ends.collector ∙ r.collector;
 }

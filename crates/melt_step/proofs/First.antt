@@ -19,6 +19,7 @@ use Rattle.melt_trace.specs.Grammar.{InRange}
 use Rattle.melt_trace.specs.Script.{Script}
 use Rattle.melt_scion.specs.Heaps.{OnDisk}
 use Rattle.melt_core.specs.Advances.{InBounds, KeepsOthers, TellsDisk}
+use Rattle.melt_core.specs.StaleBits.{BitsTold, TiedTo, sight}
 use Rattle.melt_core.specs.Views.{View, Standing, call_of, value, values_of, IsQuiet}
 use Rattle.melt_safepoint.specs.declared.thread.Mode.{Mode}
 use Rattle.melt_safepoint.specs.declared.thread.Mode.TheVariants.{Lacking}
@@ -45,6 +46,8 @@ use Rattle.melt_safepoint.specs.Passing.{NoneOwn}
 use Rattle.melt_safepoint.specs.Rows.{AwaitsCall, CollectorStands, JustCollected, LacksBy, LacksWords, LeftBy, OnlyHeld}
 use Rattle.melt_safepoint.specs.Rows.{Row, SomeAwaits, StandsBut, last_of}
 use Rattle.melt_step.specs.Made.{MakesInUse}
+use Rattle.melt_step.specs.Tied.{KeepsTied}
+use Rattle.melt_step.proofs.Tied.{bits_told, has_registers, tied_begins}
 use Rattle.melt_safepoint.specs.Tables.{IsReady, TableStands, ThreadLost, ThreadStep, ThreadTold}
 use Rattle.melt_safepoint.specs.declared.collector.Collector.{Collector}
 use Rattle.melt_safepoint.proofs.TableCounts.{adds_got, adds_lost, counts_of}
@@ -134,6 +137,15 @@ makes_by shown finish image v w ends shows makes = λ disk under.
       tells = λ is. subst (λ (x : Option (List ℕ)). TellsDisk x disk) shows (under.tells is);
     })
 
+-- and to what the stale bit is tied after it
+pub ties_by : (shown : Shown) (finish : ℕ) (image : Option (List ℕ)) (v w : View) (t : ℕ) → shown.end ≡ finish
+    → shown.image ≡ image → KeepsTied finish image v w t → KeepsTied shown.end shown.image v w t
+ties_by shown finish image v w t ends shows ties = λ begun disk under.
+    ties begun disk (record {
+      ends = under.ends ∙ ends;
+      tells = λ is. subst (λ (x : Option (List ℕ)). TellsDisk x disk) shows (under.tells is);
+    })
+
 -- what a call did over the disk under the run
 call_over : {told : Bool} {script : Script} {config : Config} {shown : Shown} {forced : ℕ} {old new : Row} {t : ℕ}
     {lacks : Option ℕ} (awaits : AwaitsCall told script config shown forced old t)
@@ -172,6 +184,17 @@ call_makes {told} {script} {config} {shown} {forced} {old} {new} {t} {lacks} awa
     (subst (λ (b : Bool). Standing b disk old.view) is stands.table.stands)
     (config.heap * length old.collector.journal.items) (stands.made is))
 
+-- the stale bit is tied to the history since the epoch began
+call_tied : {told : Bool} {script : Script} {config : Config} {shown : Shown} {forced : ℕ} {old new : Row} {t : ℕ}
+    {lacks : Option ℕ} → AwaitsCall told script config shown forced old t → MakesCall shown old new t lacks
+    → told ≡ true → TiedTo old.view new.view
+call_tied {told} {script} {config} {shown} {forced} {old} {new} {t} {lacks} awaits m is =
+    let stands : StandsBut (suc forced) told script config shown old = awaits.stands in
+    let disk : OnDisk = stands.disk in
+    m.ties old.view disk (subst (λ (b : Bool). Underlies b shown.end shown.image disk) is stands.under)
+    (subst (λ (b : Bool). Standing b disk old.view) is stands.table.stands)
+    (has_registers t stands.table is m.was.at (lacking_open m.was)) (tied_begins old.view stands.quiet)
+
 -- a call that lacked nothing is an event of its thread
 call_step : {told : Bool} {script : Script} {config : Config} {shown : Shown} {forced : ℕ} {old new : Row} {t : ℕ}
     {lacks : Option ℕ} (awaits : AwaitsCall told script config shown forced old t)
@@ -184,7 +207,7 @@ call_step {told} {script} {config} {shown} {forced} {old} {new} {t} {lacks} awai
 -- so the run stands after it
 pub made_stands : {told : Bool} {script : Script} {config : Config} {shown : Shown} {forced : ℕ} {old new : Row} {t : ℕ}
     {lacks : Option ℕ} → AwaitsCall told script config shown forced old t → MakesCall shown old new t lacks
-    → lacks ≡ None → StandsInside told script config shown new
+    → lacks ≡ None → StandsInside old.view told script config shown new
 made_stands {told} {script} {config} {shown} {forced} {old} {new} {t} {lacks} awaits m none =
     let v : View = old.view in
     let w : View = new.view in
@@ -222,6 +245,7 @@ made_stands {told} {script} {config} {shown} {forced} {old} {new} {t} {lacks} aw
       counts = counts_of script config new (set states t m.after) old.collector m.states m.collector
           (counts_paid script config (suc forced) states (set states t m.after) (length old.collector.journal.items)
           (omega (arith, awaits.few)) stands.counts adds);
+      tied = call_tied awaits m;
     }
 
 -- no call is in flight after an event that leaves none of its thread
@@ -424,6 +448,17 @@ lacked_words {told} {script} {config} {shown} {forced} {old} {new} {t} {lacks} n
           (omega (arith, above, words));
     }
 
+-- and no bit has changed but as the history tells
+lacked_bits : {told : Bool} {script : Script} {config : Config} {shown : Shown} {forced : ℕ} {old new : Row} {t : ℕ}
+    {lacks : Option ℕ} (need : ℕ) → AwaitsCall told script config shown forced old t
+    → MakesCall shown old new t lacks → lacks ≡ Some need → told ≡ true → BitsTold (sight old.view) (sight new.view)
+lacked_bits {told} {script} {config} {shown} {forced} {old} {new} {t} {lacks} need awaits m is tells =
+    let over = call_over awaits m in
+    bits_told old.view new.view
+    (subst (λ (b : Bool). Standing b awaits.stands.disk old.view) tells awaits.stands.table.stands)
+    (quiet_after old.view new.view t over.others (lacked need is over).call awaits.stands.quiet)
+    (call_tied awaits m tells)
+
 -- so the call was made
 call_made : {seen shown : Shown} {forced : ℕ} {old new : Row} {t : ℕ} {lacks : Option ℕ}
     → SomeAwaits seen forced old t → MakesCall seen old new t lacks → MakesCall shown old new t lacks → lacks ≡ None
@@ -441,6 +476,7 @@ call_lacked : {seen shown : Shown} {forced : ℕ} {old new : Row} {t : ℕ} {lac
     → lacks ≡ Some need → LacksFirst shown t need old new
 call_lacked {seen} {shown} {forced} {old} {new} {t} {lacks} need some here m is = record {
   keeps = λ told script config more awaits. lacked_words need awaits m is;
+  bits = λ told script config more awaits. lacked_bits need awaits m is;
   states = lacked_states need some.3 here is;
   collector = m.collector;
 }

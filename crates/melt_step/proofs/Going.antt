@@ -6,6 +6,7 @@ use Rattle.melt_model.specs.declared.config.Config.{Config}
 use Rattle.melt_model.specs.declared.operations.Op.TheVariants.{Collect}
 use Rattle.melt_trace.specs.Script.{Script}
 use Rattle.melt_scion.specs.Heaps.{OnDisk}
+use Rattle.melt_core.specs.StaleBits.{TiedTo}
 use Rattle.melt_core.specs.Views.{View, IsQuiet, Standing}
 use Rattle.melt_safepoint.specs.declared.thread.ThreadState.{ThreadState}
 use Rattle.melt_safepoint.specs.Shown.{Shown, Underlies}
@@ -19,6 +20,7 @@ use Rattle.melt_safepoint.specs.Rows.{CollectorStands, Row}
 use Rattle.melt_step.specs.Going.{ComesToRest, StandsInside, KeepsGoing, MadeCall, SomeStandsInside}
 use Rattle.melt_safepoint.specs.Collections.{MadeSoFar}
 use Rattle.melt_step.specs.Made.{MakesInUse}
+use Rattle.melt_step.specs.Tied.{KeepsTied}
 use Rattle.melt_safepoint.specs.Tables.{TakesTurn, ThreadStep, ThreadTold, TableStands, potential}
 use Rattle.melt_core.proofs.Disks.{stands_untold}
 use Rattle.melt_safepoint.proofs.Tables.{Table_step, Table_untold, moments_step}
@@ -31,15 +33,17 @@ use Rattle.melt_safepoint.specs.Threads.{AllWait}
 use Rattle.melt_safepoint.proofs.MakingAgain.{AgainBelow}
 use Rattle.melt_safepoint.proofs.Tables.{waiting_quiet}
 use Rattle.melt_safepoint.proofs.ToDo.{to_do_within_set}
+use Rattle.melt_step.proofs.Tied.{bits_told, has_registers, tied_begins}
 
 -- a run stands on after an event of a thread that can go on
 pub step_keeps : {finish : ℕ} {image : Option (List ℕ)} (old new : Row) (t : ℕ) {s : ThreadState} (after : ThreadState)
     → slice_get old.states t ≡ Some s → MayGo s.mode → TakesTurn finish image old.view new.view t s after
     → new.states ≡ set old.states t after → DueBy old.every s after → MakesInUse finish image old.view new.view
+    → KeepsTied finish image old.view new.view t
     → new.every ≡ old.every → new.words ≡ old.words → new.told ≡ old.told → new.collector ≡ old.collector
     → (shown : Shown) → shown.end ≡ finish → shown.image ≡ image → KeepsGoing shown old new
-step_keeps {finish} {image} old new t {s} after at goes turn states due makes every words is_told collector shown ends
-    shows told script config stands =
+step_keeps {finish} {image} old new t {s} after at goes turn states due makes ties every words is_told collector shown
+    ends shows begun told script config stands =
     let had : List ThreadState = old.states in
     let disk : OnDisk = stands.disk in
     let table : TableStands told script config disk old.view had = stands.table in
@@ -77,11 +81,15 @@ step_keeps {finish} {image} old new t {s} after at goes turn states due makes ev
           (config.heap * length old.collector.journal.items) (stands.made is));
       counts = counts_of script config new (set had t after) old.collector states collector
           (counts_on script config had (set had t after) (length old.collector.journal.items) stands.counts adds);
+      tied = λ is.
+          ties begun disk (subst (λ (b : Bool). Underlies b finish image disk) is under)
+          (subst (λ (b : Bool). Standing b disk old.view) is table.stands)
+          (has_registers t table is at (goes_on s.mode goes)) (stands.tied is);
     }
 
 -- it has less to do than before
-pub step_less : {told : Bool} {script : Script} {config : Config} {shown : Shown} {finish : ℕ} (image : Option (List ℕ))
-    {old : Row} (w : View) (t : ℕ) {s : ThreadState} (after : ThreadState) → StandsInside told script config shown old
+pub step_less : {begun : View} {told : Bool} {script : Script} {config : Config} {shown : Shown} {finish : ℕ}
+    (image : Option (List ℕ)) {old : Row} (w : View) (t : ℕ) {s : ThreadState} (after : ThreadState) → StandsInside begun told script config shown old
     → shown.end ≡ finish → slice_get old.states t ≡ Some s → MayGo s.mode → TakesTurn finish image old.view w t s after
     → potential (set old.states t after) w.calls < potential old.states old.view.calls
 step_less {told} {script} {config} {finish} image {old} w t {s} after stands ends at goes turn =
@@ -97,9 +105,9 @@ step_less {told} {script} {config} {finish} image {old} w t {s} after stands end
     step_nearer table at goes step (later.each ∙ (step.others.threads ∙ sym before.each))
 
 -- it has no more to do than before
-pub step_to_do : {told : Bool} {script : Script} {config : Config} {shown : Shown} {finish : ℕ}
+pub step_to_do : {begun : View} {told : Bool} {script : Script} {config : Config} {shown : Shown} {finish : ℕ}
     (image : Option (List ℕ)) {old : Row} (w : View) (t : ℕ) {s : ThreadState} (after : ThreadState)
-    → StandsInside told script config shown old → shown.end ≡ finish → slice_get old.states t ≡ Some s → MayGo s.mode
+    → StandsInside begun told script config shown old → shown.end ≡ finish → slice_get old.states t ≡ Some s → MayGo s.mode
     → TakesTurn finish image old.view w t s after → to_do (set old.states t after) ≤ to_do old.states
 step_to_do {told} {finish} image {old} w t {s} after stands ends at goes turn =
     let disk : OnDisk = stands.disk in
@@ -110,9 +118,9 @@ step_to_do {told} {finish} image {old} w t {s} after stands ends at goes turn =
     to_do_within_set old.states t s after at (step_jobs goes step)
 
 -- the history has as much room as before
-pub step_capacity : {told : Bool} {script : Script} {config : Config} {shown : Shown} {finish : ℕ}
+pub step_capacity : {begun : View} {told : Bool} {script : Script} {config : Config} {shown : Shown} {finish : ℕ}
     (image : Option (List ℕ)) {old : Row} (w : View) (t : ℕ) {s : ThreadState} (after : ThreadState)
-    → StandsInside told script config shown old → shown.end ≡ finish → TakesTurn finish image old.view w t s after
+    → StandsInside begun told script config shown old → shown.end ≡ finish → TakesTurn finish image old.view w t s after
     → w.capacity ≡ old.view.capacity
 step_capacity {told} {finish} image {old} w t {s} after stands ends turn =
     let disk : OnDisk = stands.disk in
@@ -126,7 +134,7 @@ step_capacity {told} {finish} image {old} w t {s} after stands ends turn =
 pub again_keeps : (shown : Shown) (old new : Row) (n : ℕ) → AgainBelow old.states new.states n
     → IsQuiet old.view → new.view ≡ old.view → new.collector ≡ old.collector → new.every ≡ old.every
     → new.words ≡ old.words → new.told ≡ old.told → KeepsGoing shown old new
-again_keeps shown old new n again quiet core collector every words is_told told script config stands =
+again_keeps shown old new n again quiet core collector every words is_told begun told script config stands =
     let table : TableStands told script config stands.disk old.view old.states = stands.table in
     let n : ℕ = length old.collector.journal.items in
     record {
@@ -149,6 +157,7 @@ again_keeps shown old new n again quiet core collector every words is_told told 
       counts = counts_of script config new new.states old.collector refl collector
           (counts_on script config old.states new.states n stands.counts
           (again.collected script config table.count));
+      tied = λ is. subst (TiedTo begun) (sym core) (stands.tied is);
     }
 
 -- what stood for some script stands on
@@ -159,12 +168,18 @@ some_on finish image old new some keeps = (
   some.0,
   some.1,
   some.2,
-  (some.3.0, some.3.1, some.3.2, keeps some.0 some.1 some.2 some.3.0 some.3.1 some.3.2 some.3.3),
+  (
+    some.3.0,
+    some.3.1,
+    some.3.2,
+    some.3.3,
+    keeps some.0 some.1 some.2 some.3.3 some.3.0 some.3.1 some.3.2 some.3.4,
+  ),
 )
 
--- a run between two epochs stands as in one
+-- a run between two epochs stands as in one that begins
 pub goes_from : {told : Bool} {script : Script} {config : Config} {shown : Shown} {run : Row}
-    → RunStands told script config shown run → StandsInside told script config shown run
+    → RunStands told script config shown run → StandsInside run.view told script config shown run
 goes_from {told} {script} {config} {shown} {run} stands = record {
   disk = stands.disk;
   under = stands.under;
@@ -177,11 +192,12 @@ goes_from {told} {script} {config} {shown} {run} stands = record {
   moments = stands.moments;
   made = stands.made;
   counts = stands.counts;
+  tied = λ is. tied_begins run.view stands.quiet;
 }
 
 -- and so after one, where no thread can go on
-pub stands_from : {told : Bool} {script : Script} {config : Config} {shown : Shown} {run : Row} → AllWait run.states
-    → StandsInside told script config shown run → RunStands told script config shown run
+pub stands_from : {begun : View} {told : Bool} {script : Script} {config : Config} {shown : Shown} {run : Row}
+    → AllWait run.states → StandsInside begun told script config shown run → RunStands told script config shown run
 stands_from {told} {script} {config} {shown} {run} waits goes = record {
   disk = goes.disk;
   under = goes.under;
@@ -208,15 +224,24 @@ known_rests v states known waits = record {
 pub runs_all : (shown : Shown) (first : Option ℕ) (old new : Row) → first ≡ None → ComesToRest shown old new
     → RestsWell new.states → to_do new.states ≤ to_do old.states → new.collector ≡ old.collector
     → RunsEpoch shown first old new
-runs_all shown first old new none comes rests less collector = record {
-  keeps = λ told script config may.
-      comes told script config
-      (goes_from (subst (λ (f : Option ℕ). MayRunEpoch told script config shown f old) none may).0);
-  rests = rests;
-  less = less;
-  first_less = subst (λ (f : Option ℕ). IfSome f (λ t. to_do new.states < to_do old.states)) (sym none) tt;
-  collector = collector;
-}
+runs_all shown first old new none comes rests less collector =
+    let stood : (told : Bool) (script : Script) (config : Config) → MayRunEpoch told script config shown first old
+    → RunStands told script config shown old =
+    λ told script config may.
+    (subst (λ (f : Option ℕ). MayRunEpoch told script config shown f old) none may).0 in
+    record {
+      keeps = λ told script config may.
+          (comes old.view told script config (goes_from (stood told script config may))).0;
+      bits = λ told script config may is.
+          let stands : RunStands told script config shown old = stood told script config may in
+          let after = comes old.view told script config (goes_from stands) in
+          bits_told old.view new.view (subst (λ (b : Bool). Standing b stands.disk old.view) is stands.table.stands)
+          after.0.quiet (after.1 is);
+      rests = rests;
+      less = less;
+      first_less = subst (λ (f : Option ℕ). IfSome f (λ t. to_do new.states < to_do old.states)) (sym none) tt;
+      collector = collector;
+    }
 
 -- and one in which one was made first
 pub runs_after : (shown : Shown) (first : Option ℕ) (t : ℕ) (old mid new : Row) → first ≡ Some t
@@ -225,11 +250,19 @@ pub runs_after : (shown : Shown) (first : Option ℕ) (t : ℕ) (old mid new : R
     → new.collector ≡ mid.collector → RunsEpoch shown first old new
 runs_after shown first t old mid new some made fewer same comes rests less collector =
     let under : to_do new.states < to_do old.states = omega (arith, fewer, less) in
+    let awaits : (told : Bool) (script : Script) (config : Config) → MayRunEpoch told script config shown first old
+    → MayRunEpoch told script config shown (Some t) old =
+    λ told script config may. subst (λ (f : Option ℕ). MayRunEpoch told script config shown f old) some may in
     record {
       keeps = λ told script config may.
-          let awaits : MayRunEpoch told script config shown (Some t) old =
-          subst (λ (f : Option ℕ). MayRunEpoch told script config shown f old) some may in
-          comes told script config (made.keeps told script config awaits.0 awaits.1);
+          let call = awaits told script config may in
+          (comes old.view told script config (made.keeps told script config call.0 call.1)).0;
+      bits = λ told script config may is.
+          let call = awaits told script config may in
+          let after = comes old.view told script config (made.keeps told script config call.0 call.1) in
+          bits_told old.view new.view
+          (subst (λ (b : Bool). Standing b call.1.stands.disk old.view) is call.1.stands.table.stands) after.0.quiet
+          (after.1 is);
       rests = rests;
       less = omega (arith, under);
       first_less = subst (λ (f : Option ℕ). IfSome f (λ u. to_do new.states < to_do old.states)) (sym some) under;

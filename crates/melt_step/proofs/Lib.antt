@@ -10,4 +10,5 @@ pub mod Potentials
 pub mod Resting
 pub mod Starting
 pub mod Stored
+pub mod Tied
 pub mod Turning

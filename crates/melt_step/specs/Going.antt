@@ -3,6 +3,7 @@ use Rattle.std.specs.Prelude.{◌≡◌, ◌≢◌, ℕ, ◌<◌, Bool, true, fa
 use Rattle.melt_model.specs.declared.config.Config.{Config}
 use Rattle.melt_trace.specs.Script.{Script}
 use Rattle.melt_scion.specs.Heaps.{OnDisk}
+use Rattle.melt_core.specs.StaleBits.{TiedTo}
 use Rattle.melt_core.specs.Views.{IsQuiet, View, call_of, view}
 use Rattle.melt_safepoint.specs.Collections.{MadeSoFar}
 use Rattle.melt_safepoint.specs.Counts.{CountsCollections}
@@ -19,6 +20,7 @@ use Rattle.melt_safepoint.specs.Threads.{DueBy}
 use Rattle.melt_safepoint.specs.declared.thread.ThreadState.{ThreadState}
 use Rattle.melt_step.specs.Lone.{CalledAlone}
 use Rattle.melt_step.specs.Made.{MakesInUse}
+use Rattle.melt_step.specs.Tied.{KeepsTied}
 use Rattle.melt_step.specs.Stored.{view_by}
 use Rattle.melt_step.specs.declared.machine.Ordered.{Ordered}
 
@@ -30,8 +32,10 @@ core_view it = view it.core
 abbrev pub kept_view : {stored : ℕ} → Ordered stored → View
 kept_view {stored} it = view_by stored it.core
 
--- A run stands inside an epoch as between two, but that calls may be in flight.
-pub record StandsInside (told : Bool) (script : Script) (config : Config) (shown : Shown) (run : Row) : Type 0 where
+-- A run stands inside an epoch that began so as between two, but that calls may be in flight. The stale bit is tied to
+-- the history since.
+pub record StandsInside (begun : View) (told : Bool) (script : Script) (config : Config) (shown : Shown) (run : Row)
+    : Type 0 where
   pub disk : OnDisk
   pub under : Underlies told shown.end shown.image disk
   pub none_free : disk.free_homes ≡ []
@@ -43,29 +47,31 @@ pub record StandsInside (told : Bool) (script : Script) (config : Config) (shown
   pub moments : told ≡ true → HaveMoments script run.view.log run.states config run.collector.journal.items
   pub made : told ≡ true → MadeSoFar config run.view run.collector.journal.items
   pub counts : CountsCollections script config 0 run.states (length run.collector.journal.items)
+  pub tied : told ≡ true → TiedTo begun run.view
 
 -- for some script, over homes that end so and the words that a reader tells
 abbrev pub SomeStandsInside : ℕ → Option (List ℕ) → Row → Type 0
 SomeStandsInside finish image run = (shown : Shown) × (shown.end ≡ finish) × (shown.image ≡ image)
-    × ((told : Bool) × (script : Script) × (config : Config) × StandsInside told script config shown run)
+    × ((told : Bool) × (script : Script) × (config : Config) × (begun : View)
+    × StandsInside begun told script config shown run)
 
 -- for each script for which the run stood, told or not, it stands
 abbrev pub KeepsGoing : Shown → Row → Row → Type 0
-KeepsGoing shown old new = (told : Bool) (script : Script) (config : Config) → StandsInside told script config shown old
-    → StandsInside told script config shown new
+KeepsGoing shown old new = (begun : View) (told : Bool) (script : Script) (config : Config)
+    → StandsInside begun told script config shown old → StandsInside begun told script config shown new
 
--- and so after the epoch, where no call is in flight
+-- and so after the epoch, where no call is in flight, with the stale bit tied to its history
 abbrev pub ComesToRest : Shown → Row → Row → Type 0
-ComesToRest shown old new = (told : Bool) (script : Script) (config : Config) → StandsInside told script config shown
-    old
-    → RunStands told script config shown new
+ComesToRest shown old new = (begun : View) (told : Bool) (script : Script) (config : Config)
+    → StandsInside begun told script config shown old
+    → RunStands told script config shown new × (told ≡ true → TiedTo begun new.view)
 
 -- A run has less to do than before, events counted too.
 abbrev pub IsNearer : Row → Row → Type 0
 IsNearer old new = potential new.states new.view.calls < potential old.states old.view.calls
 
 -- A call that was made alone for the thread, over what is seen, and may have lacked so many words: the core and the
--- state of the thread are new, and what it made is in use.
+-- state of the thread are new, what it made is in use, and the stale bit stays tied to the history.
 pub record MakesCall (shown : Shown) (old new : Row) (t : ℕ) (lacks : Option ℕ) : Type 0 where
   pub s : ThreadState
   pub after : ThreadState
@@ -75,16 +81,17 @@ pub record MakesCall (shown : Shown) (old new : Row) (t : ℕ) (lacks : Option �
   pub called : CalledAlone shown.end shown.image old.view new.view t s after op lacks
   pub due : DueBy old.every s after
   pub makes : MakesInUse shown.end shown.image old.view new.view
+  pub ties : KeepsTied shown.end shown.image old.view new.view t
   pub states : new.states ≡ slice_set old.states t after
   pub collector : new.collector ≡ old.collector
   pub words : new.words ≡ old.words
   pub every : new.every ≡ old.every
   pub told : new.told ≡ old.told
 
--- The call of the thread was made: it has less to do, and waits for nothing.
+-- The call of the thread was made, by the first events of an epoch: it has less to do, and waits for nothing.
 pub record MadeCall (shown : Shown) (old new : Row) (t : ℕ) : Type 0 where
   pub keeps : (told : Bool) (script : Script) (config : Config) (forced : ℕ)
-      → AwaitsCall told script config shown forced old t → StandsInside told script config shown new
+      → AwaitsCall told script config shown forced old t → StandsInside old.view told script config shown new
   pub quiet : IsQuiet new.view
   pub stop : new.view.stop ≡ false
   pub called : CalledAt old.states new.states t

@@ -3,4 +3,5 @@ pub mod Going
 pub mod Stored
 pub mod Lone
 pub mod Made
+pub mod Tied
 pub mod Turns

@@ -10,6 +10,7 @@ ghost use Rattle.melt_safepoint.specs.Losses.{CountsLoss};
 ghost use Rattle.melt_safepoint.specs.Threads.{DueBy};
 ghost use Rattle.melt_step.specs.Lone.{IsAloneReady, CalledAlone};
 ghost use Rattle.melt_step.specs.Made.{MakesInUse};
+ghost use Rattle.melt_step.specs.Tied.{KeepsTied};
 
 use crate::events::{answered, refused};
 use melt_core::{Core, StepResult};
@@ -34,6 +35,7 @@ pub fn call_alone<R: RecordReader>(
     ensures due { DueBy every state.old state.new }
     ensures image { R.image reader.new ≡ R.image reader.old }
     ensures makes { MakesInUse end (R.image reader.old) (view core.old) (view core.new) }
+    ensures ties { KeepsTied end (R.image reader.old) (view core.old) (view core.new) thread }
     ensures lost { CountsLoss state.old state.new (R.faults reader.old) (R.faults reader.new) }
 {
     loop {

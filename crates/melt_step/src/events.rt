@@ -10,6 +10,7 @@ ghost use Rattle.melt_safepoint.specs.Losses.{CountsLoss};
 ghost use Rattle.melt_safepoint.specs.Threads.{DueBy, TakesReply};
 ghost use Rattle.melt_safepoint.specs.Modes.{MayGo, mode_for};
 ghost use Rattle.melt_step.specs.Made.{MakesInUse};
+ghost use Rattle.melt_step.specs.Tied.{KeepsTied};
 ghost use Rattle.melt_step.specs.Going.{IsNextCall};
 ghost use Rattle.melt_safepoint.specs.Tables.{DropsIfEnded, IsReady, SetsStop, TakesTurn};
 
@@ -36,6 +37,7 @@ pub fn make_event<R: RecordReader>(
     ensures due { DueBy every state.old state.new }
     ensures image { R.image reader.new ≡ R.image reader.old }
     ensures makes { MakesInUse end (R.image reader.old) (view core.old) (view core.new) }
+    ensures ties { KeepsTied end (R.image reader.old) (view core.old) (view core.new) thread }
     ensures lost { CountsLoss state.old state.new (R.faults reader.old) (R.faults reader.new) }
 {
     match (state.mode, state.op) {
@@ -73,6 +75,7 @@ fn make_event_apart<R: RecordReader>(
     ensures due { DueBy every state.old state.new }
     ensures image { R.image reader.new ≡ R.image reader.old }
     ensures makes { MakesInUse end (R.image reader.old) (view core.old) (view core.new) }
+    ensures ties { KeepsTied end (R.image reader.old) (view core.old) (view core.new) thread }
     ensures lost { CountsLoss state.old state.new (R.faults reader.old) (R.faults reader.new) }
 {
     make_event(core, state, thread, every, end, reader);
@@ -166,6 +169,7 @@ pub fn make_events<R: RecordReader>(
     ensures due { DueBy every state.old state.new }
     ensures image { R.image reader.new ≡ R.image reader.old }
     ensures makes { MakesInUse end (R.image reader.old) (view core.old) (view core.new) }
+    ensures ties { KeepsTied end (R.image reader.old) (view core.old) (view core.new) thread }
     ensures lost { CountsLoss state.old state.new (R.faults reader.old) (R.faults reader.new) }
     ensures next { IfSome result (λ op. IsNextCall (view core.new) thread state.new op) }
 {

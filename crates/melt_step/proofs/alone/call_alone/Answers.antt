@@ -1,13 +1,13 @@
 -- Each event goes on with the call, or ends it.
-use Rattle.std.proofs.Common.{◌≡◌, ◌∙◌, rules, true, false, refl, sym, ap, subst}
-use Rattle.std.specs.Prelude.{ℕ, List, Option, None, Some}
+use Rattle.std.proofs.Common.{◌≡◌, ◌∙◌, length, rules, true, false, refl, sym, ap, subst}
+use Rattle.std.specs.Prelude.{ℕ, Bool, List, Option, None, Some}
 use Rattle.melt_record.specs.declared.damage.Damaged.{Damaged as Damage}
-use Rattle.melt_core.specs.Advances.{AdvancesWhere, IsDamage, TellsDisk}
+use Rattle.melt_core.specs.Advances.{AdvancesWhere, IsDamage, MayAdvance, TellsDisk}
 use Rattle.melt_core.specs.Views.{View, Standing, view}
 use Rattle.melt_core.specs.declared.answer.Refusal.{Refusal}
 use Rattle.melt_core.specs.declared.answer.Refusal.TheVariants.{Damaged}
 use Rattle.melt_core.specs.declared.answer.StepResult.{StepResult}
-use Rattle.melt_core.specs.declared.answer.StepResult.TheVariants.{Refused}
+use Rattle.melt_core.specs.declared.answer.StepResult.TheVariants.{Answered, Going, Refused}
 use Rattle.melt_model.specs.declared.operations.Op.{Op}
 use Rattle.melt_scion.specs.Heaps.{OnDisk}
 use Rattle.melt_safepoint.specs.declared.thread.ThreadState.{ThreadState}
@@ -15,12 +15,14 @@ use Rattle.melt_safepoint.specs.Modes.{mode_for}
 use Rattle.melt_safepoint.specs.Shown.{Underlies}
 use Rattle.melt_safepoint.proofs.Shown.{under_untold}
 use Rattle.melt_safepoint.proofs.Modes.{lacks_space}
-use Rattle.melt_step.specs.Lone.{CalledOver}
+use Rattle.melt_step.specs.Lone.{CalledOver, IsAloneReady}
 use Rattle.melt_step.specs.Made.{MakesInUse}
+use Rattle.melt_step.specs.Tied.{KeepsTied}
 use Rattle.melt_step.proofs.Calling.{KeepsOthers_both, goes_nearer, refused_call, thread_there}
-use Rattle.melt_step.proofs.LoneCalls.{call_asks, call_goes, call_lacks, call_lost, call_reads, call_told, few_still}
+use Rattle.melt_step.proofs.LoneCalls.{OnCall, call_asks, call_goes, call_lacks, call_lost, call_reads, call_told, few_still}
 use Rattle.melt_step.proofs.LoneCalls.{never_pauses}
 use Rattle.melt_safepoint.proofs.WordsMade.{made_ended}
+use Rattle.melt_step.proofs.Tied.{drop_ties, event_ties}
 use Rattle.melt_step.proofs.alone.call_alone.Goals as goal
 
 -- an event of the call makes what comes into use, also after those before it
@@ -33,6 +35,21 @@ event_makes {image} {before} {finish} {u} {v} {w} {t} {o} {result} same makes ke
     (event disk under.ends).makes
     (subst (λ (x : Option (List ℕ)). TellsDisk x disk) (sym same) (under.tells refl)) (keeps disk under stands) past
     (makes disk under stands past had)
+
+-- and keeps the stale bit tied
+event_after : {image before : Option (List ℕ)} {finish : ℕ} {u v w : View} {t : ℕ} {s : ThreadState} {o : Op}
+    (result : StepResult) → before ≡ image → IsAloneReady finish u t s o → OnCall u v t o
+    → ((told : Bool) (disk : OnDisk) → Underlies told finish image disk → Standing told disk u → Standing told disk v)
+    → KeepsTied finish image u v t
+    → ((disk : OnDisk) → disk.end ≡ finish → AdvancesWhere (TellsDisk before disk) disk v w t o result)
+    → KeepsTied finish image u w t
+event_after {image} {before} {finish} {v} {t} {o} result same ready on keeps ties event begun disk under
+    stands sixteen tied =
+    let may : MayAdvance finish v t o = call_asks ready on
+    (keeps false ready.disk (under_untold finish image ready.disk ready.ends) ready.stands) in
+    event_ties result (record { disk = may.disk; asks = may.asks }) event begun disk
+    (subst (λ (x : Option (List ℕ)). Underlies true finish x disk) (sym same) under) (keeps true disk under stands)
+    (ap length on.registers ∙ sixteen) (ties begun disk under stands sixteen tied)
 
 pub advance-requires : goal.advance-requires
 advance-requires g c =
@@ -58,6 +75,8 @@ loop-reply-preserved g c = record {
       under.tells) (c.loop-reply.invariant.stands told disk under stands);
   makes = event_makes c.loop-reply.invariant.image c.loop-reply.invariant.makes (c.loop-reply.invariant.stands true)
       c.in-Going.ensures.advances.over;
+  ties = event_after Going c.loop-reply.invariant.image c.requires.ready c.loop-reply.invariant.on
+      c.loop-reply.invariant.stands c.loop-reply.invariant.ties c.in-Going.ensures.advances.over;
   state = c.loop-reply.invariant.state;
   image = c.in-Going.ensures.image ∙ c.loop-reply.invariant.image;
   faults = search rules;
@@ -147,3 +166,24 @@ returns-in-None-clause-makes g c disk under stands past had =
     c.refused.ensures.drops past
     (event_makes c.loop-reply.invariant.image c.loop-reply.invariant.makes (c.loop-reply.invariant.stands true)
     c.in-Refused.ensures.advances.over disk under stands past had)
+
+pub returns-in-Answered-clause-ties : goal.returns-in-Answered-clause-ties
+returns-in-Answered-clause-ties g c begun disk under stands sixteen tied =
+    drop_ties begun (view c.advance.new.self) (view c.answered.new.core) c.args.thread c.answered.new.state.mode
+    c.answered.ensures.drops
+    (event_after (Answered c.in-Answered.reply) c.loop-reply.invariant.image c.requires.ready c.loop-reply.invariant.on
+    c.loop-reply.invariant.stands c.loop-reply.invariant.ties c.in-Answered.ensures.advances.over begun disk
+    under stands sixteen tied)
+
+pub returns-in-Some-clause-ties : goal.returns-in-Some-clause-ties
+returns-in-Some-clause-ties g c =
+    event_after (Refused c.in-Refused.refusal) c.loop-reply.invariant.image c.requires.ready c.loop-reply.invariant.on
+    c.loop-reply.invariant.stands c.loop-reply.invariant.ties c.in-Refused.ensures.advances.over
+
+pub returns-in-None-clause-ties : goal.returns-in-None-clause-ties
+returns-in-None-clause-ties g c begun disk under stands sixteen tied =
+    drop_ties begun (view c.advance.new.self) (view c.refused.new.core) c.args.thread
+    (mode_for c.in-Refused.refusal) c.refused.ensures.drops
+    (event_after (Refused c.in-Refused.refusal) c.loop-reply.invariant.image c.requires.ready c.loop-reply.invariant.on
+    c.loop-reply.invariant.stands c.loop-reply.invariant.ties c.in-Refused.ensures.advances.over begun disk
+    under stands sixteen tied)

@@ -7,6 +7,7 @@ use Rattle.melt_core.specs.Stages.{events_left}
 use Rattle.melt_safepoint.specs.Shown.{Underlies}
 use Rattle.melt_safepoint.specs.Threads.{most_forwards}
 use Rattle.melt_step.specs.Made.{MakesInUse}
+use Rattle.melt_step.specs.Tied.{KeepsTied}
 use Rattle.melt_step.proofs.LoneCalls.{OnCall}
 use Rattle.melt_step.proofs.alone.call_alone.Given as goal
 
@@ -16,6 +17,7 @@ invariant-loop-reply g l = record {
   stands : (told : Bool) (disk : OnDisk) → Underlies told l.end (g.R.RecordReader.image l.initial.reader) disk
       → Standing told disk (view l.initial.core) → Standing told disk (view l.core);
   makes : MakesInUse l.end (g.R.RecordReader.image l.initial.reader) (view l.initial.core) (view l.core);
+  ties : KeepsTied l.end (g.R.RecordReader.image l.initial.reader) (view l.initial.core) (view l.core) l.thread;
   state : l.state ≡ l.initial.state;
   image : g.R.RecordReader.image l.reader ≡ g.R.RecordReader.image l.initial.reader;
   faults : g.R.RecordReader.faults l.initial.reader ≤ g.R.RecordReader.faults l.reader;

@@ -11,7 +11,7 @@ use Rattle.melt_step.specs.Lone.{IsAloneReady}
 use Rattle.melt_safepoint.specs.Rows.{Row, row_of}
 use Rattle.melt_step.specs.Going.{MakesCall, core_view}
 use Rattle.melt_step.proofs.Stored.{capacity_stores}
-use Rattle.melt_step.proofs.First.{has_next, alone_ready, called_by, calls_first, makes_by}
+use Rattle.melt_step.proofs.First.{has_next, alone_ready, called_by, calls_first, makes_by, ties_by}
 use Rattle.melt_step.proofs.epoch.call.Given.{Over}
 use Rattle.melt_step.proofs.epoch.call.Goals as goal
 use Rattle.melt_step.proofs.epoch.call.Goals.{After-call_alone, After-index_mut-state}
@@ -65,6 +65,8 @@ makes g c shown ends shows = record {
   due = c.call_alone.ensures.due;
   makes = makes_by shown c.args.end (g.R.RecordReader.image c.args.reader.now) (view c.args.run.now.machine.core)
       (view c.call_alone.new.core) ends shows c.call_alone.ensures.makes;
+  ties = ties_by shown c.args.end (g.R.RecordReader.image c.args.reader.now) (view c.args.run.now.machine.core)
+      (view c.call_alone.new.core) c.args.thread ends shows c.call_alone.ensures.ties;
   states = refl;
   collector = refl;
   words = refl;

@@ -32,8 +32,8 @@ make_events-next-requires-clause-ready g c =
     let states : List ThreadState = states_at c.args.run.now c.args.thread s in
     let stands = some_on c.args.end _ (row_of core_view c.args.run.now) (row_at c.args.run.now c.args.thread v s)
     c.requires.stands c.loop-core.invariant.keeps in
-    table_ready c.args.thread (Table_untold stands.3.0 stands.3.1 stands.3.2 stands.3.3.disk v states stands.3.3.table)
-    (stands.3.3.under.ends ∙ stands.1)
+    table_ready c.args.thread (Table_untold stands.3.0 stands.3.1 stands.3.2 stands.3.4.disk v states stands.3.4.table)
+    (stands.3.4.under.ends ∙ stands.1)
     (here c.args.run.now.states.items c.args.thread c.index_mut-state.result.now s c.requires.there)
 
 pub loop-core-smaller : goal.loop-core-smaller
@@ -48,7 +48,7 @@ loop-core-smaller g c =
     c.requires.stands c.loop-core.invariant.keeps in
     subst (λ (states : List ThreadState). potential states w.calls
     < potential (states_at c.args.run.now c.args.thread s) v.calls) (set_twice xs c.args.thread s after)
-    (step_less _ w c.args.thread after stands.3.3 stands.1
+    (step_less _ w c.args.thread after stands.3.4 stands.1
     (here xs c.args.thread c.index_mut-state.result.now s c.requires.there) goes c.make_events-next.ensures.step)
 
 pub loop-core-preserved : goal.loop-core-preserved
@@ -69,18 +69,18 @@ loop-core-preserved g c =
     let stands = some_on c.args.end _ (row_of core_view c.args.run.now) old c.requires.stands had.keeps in
     let less : to_do (slice_set xs t after) ≤ to_do states =
     subst (λ (ys : List ThreadState). to_do ys ≤ to_do states) same
-    (step_to_do _ w t after stands.3.3 stands.1 at goes c.make_events-next.ensures.step) in
+    (step_to_do _ w t after stands.3.4 stands.1 at goes c.make_events-next.ensures.step) in
     let nearer : potential (slice_set xs t after) w.calls < potential states v.calls =
     subst (λ (ys : List ThreadState). potential ys w.calls < potential states v.calls) same
-    (step_less _ w t after stands.3.3 stands.1 at goes c.make_events-next.ensures.step) in
+    (step_less _ w t after stands.3.4 stands.1 at goes c.make_events-next.ensures.step) in
     record {
-      keeps = λ shown ends shows told script config runs.
+      keeps = λ shown ends shows begun told script config runs.
           step_keeps old new t after at goes c.make_events-next.ensures.step (sym same) c.make_events-next.ensures.due
-          c.make_events-next.ensures.makes refl refl refl refl shown ends (shows ∙ sym had.image) told script config
-          (had.keeps shown ends shows told script config runs);
+          c.make_events-next.ensures.makes c.make_events-next.ensures.ties refl refl refl refl shown ends
+          (shows ∙ sym had.image) begun told script config (had.keeps shown ends shows begun told script config runs);
       next = c.make_events-next.ensures.next;
       stop = subst (KnowsStop w) same (stop_known v w states t s after had.stop at goes c.make_events-next.ensures.stop);
-      stored = capacity_stores v w (step_capacity _ w t after stands.3.3 stands.1 c.make_events-next.ensures.step)
+      stored = capacity_stores v w (step_capacity _ w t after stands.3.4 stands.1 c.make_events-next.ensures.step)
           ∙ had.stored;
       less = omega (arith, less, had.less);
       nearer = omega (arith, nearer, had.nearer);

@@ -31,7 +31,7 @@ stands g c =
 
 pub gives_all-requires : goal.gives_all-requires
 gives_all-requires g c =
-    let table = (stands g (goal.at.gives_all-requires g c).After-take_turn).3.3.table in
+    let table = (stands g (goal.at.gives_all-requires g c).After-take_turn).3.4.table in
     omega (arith, ap length c.deref.ensures.value, table.count, table.threads, table.stands.few)
 
 pub give_all-requires : goal.give_all-requires
@@ -57,10 +57,10 @@ loop-thread-preserved g c =
     let before = c.loop-thread.invariant in
     let turn = c.take_turn.ensures in
     record {
-      keeps = λ shown ends shows told script config goes.
-          subst (StandsInside told script config shown) (sym row)
-          (turn.keeps shown ends (shows ∙ sym before.image) told script config
-          (before.keeps shown ends shows told script config goes));
+      keeps = λ shown ends shows begun told script config goes.
+          subst (StandsInside begun told script config shown) (sym row)
+          (turn.keeps shown ends (shows ∙ sym before.image) begun told script config
+          (before.keeps shown ends shows begun told script config goes));
       stop = subst (λ (r : Row). KnowsStop r.view r.states) (sym row) turn.stop;
       collector = ap (λ (r : Row). r.collector) row ∙ (turn.collector ∙ before.collector);
       stored = ap (λ (r : Row). stores r.view) row ∙ (turn.stored ∙ before.stored);

@@ -1,13 +1,14 @@
 -- The threads go on, after the call of one that lacked room or at once.
 use Rattle.std.proofs.Common.{◌≡◌, ℕ, ◌<◌, Some, sym, ◌∙◌, subst, arith}
 use Rattle.std.specs.Prelude.{Option}
+use Rattle.melt_core.specs.Views.{view}
 use Rattle.melt_safepoint.specs.Epochs.{EndsEpoch, SomeMayRun, to_do}
 use Rattle.melt_safepoint.specs.Rows.{Row, row_of}
 use Rattle.melt_safepoint.specs.Shown.{Shown}
 use Rattle.melt_safepoint.proofs.Safepoints.{called_own}
 use Rattle.melt_safepoint.proofs.ToDo.{called_less}
 use Rattle.melt_step.specs.Going.{CallsFirst, MadeCall, core_view}
-use Rattle.melt_step.proofs.Going.{runs_all, runs_after}
+use Rattle.melt_step.proofs.Going.{goes_from, runs_all, runs_after}
 use Rattle.melt_step.proofs.epoch.go_through.Given.{Over}
 use Rattle.melt_step.proofs.epoch.go_through.Goals as goal
 use Rattle.melt_step.proofs.epoch.go_through.Goals.{In-None-call}
@@ -34,6 +35,22 @@ fewer g c =
     called_less c.args.run.now.states.items c.call.new.run.states.items c.in-Some.thread awaits.waits.0 awaits.waits.1
     (made g c c.requires.may.0 c.requires.may.1 c.requires.may.2).called
 
+pub run_events-requires : goal.run_events-requires
+run_events-requires g c =
+    let may = subst (λ (f : Option ℕ). SomeMayRun c.requires.may.0 f (row_of core_view c.args.run.now)) c.in-None.is
+    c.requires.may.3 in (
+      omega arith,
+      (
+        (
+          c.requires.may.0,
+          c.requires.may.1,
+          c.requires.may.2,
+          (may.0, may.1, may.2, view c.args.run.now.machine.core, goes_from may.3.0),
+        ),
+        (may.3.2, (may.3.0.quiet, c.requires.stop)),
+      ),
+    )
+
 pub run_events-requires-in-None-call : goal.run_events-requires-in-None-call
 run_events-requires-in-None-call g c =
     let here = (goal.at.run_events-requires-in-None-call g c).In-None-call in
@@ -46,7 +63,7 @@ run_events-requires-in-None-call g c =
           c.requires.may.0,
           c.requires.may.1,
           c.requires.may.2 ∙ sym c.call.ensures.image,
-          (may.0, may.1, may.2, called.keeps may.0 may.1 may.2 may.3.0 may.3.1),
+          (may.0, may.1, may.2, view c.args.run.now.machine.core, called.keeps may.0 may.1 may.2 may.3.0 may.3.1),
         ),
         (
           called_own c.args.run.now.states.items c.call.new.run.states.items c.in-Some.thread awaits.waits.0 awaits.own

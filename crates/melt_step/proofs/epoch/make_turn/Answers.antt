@@ -41,8 +41,8 @@ make_event-requires g c =
     let stands = c.requires.stands in
     record {
       ready = table_ready c.args.thread
-          (Table_untold stands.3.0 stands.3.1 stands.3.2 stands.3.3.disk (view c.args.run.now.machine.core)
-          c.args.run.now.states.items stands.3.3.table) (stands.3.3.under.ends ∙ stands.1) borrowed.0;
+          (Table_untold stands.3.0 stands.3.1 stands.3.2 stands.3.4.disk (view c.args.run.now.machine.core)
+          c.args.run.now.states.items stands.3.4.table) (stands.3.4.under.ends ∙ stands.1) borrowed.0;
       goes = borrowed.1;
     }
 
@@ -56,19 +56,20 @@ returns g c =
     let stands = c.requires.stands in
     record {
       keeps = step_keeps (row_of core_view c.args.run.now) _ c.args.thread after borrowed.0 borrowed.1
-          c.make_event.ensures.step refl c.make_event.ensures.due c.make_event.ensures.makes refl refl refl refl;
+          c.make_event.ensures.step refl c.make_event.ensures.due c.make_event.ensures.makes c.make_event.ensures.ties refl
+          refl refl refl;
       stop = stop_known (view c.args.run.now.machine.core)
           (view c.make_event.new.core) states c.args.thread s after c.requires.stop borrowed.0 borrowed.1
           c.make_event.ensures.stop;
       there = length-set states c.args.thread after;
-      nearer = step_less _ (view c.make_event.new.core) c.args.thread after stands.3.3 stands.1 borrowed.0 borrowed.1
+      nearer = step_less _ (view c.make_event.new.core) c.args.thread after stands.3.4 stands.1 borrowed.0 borrowed.1
           c.make_event.ensures.step;
-      less = step_to_do _ (view c.make_event.new.core) c.args.thread after stands.3.3 stands.1 borrowed.0 borrowed.1
+      less = step_to_do _ (view c.make_event.new.core) c.args.thread after stands.3.4 stands.1 borrowed.0 borrowed.1
           c.make_event.ensures.step;
       image = c.make_event.ensures.image;
       collector = refl;
       stored = capacity_stores (view c.args.run.now.machine.core) (view c.make_event.new.core)
-          (step_capacity _ (view c.make_event.new.core) c.args.thread after stands.3.3 stands.1
+          (step_capacity _ (view c.make_event.new.core) c.args.thread after stands.3.4 stands.1
           c.make_event.ensures.step);
       lost = counts_set states c.args.thread s after _ _ borrowed.0 c.make_event.ensures.lost;
     }

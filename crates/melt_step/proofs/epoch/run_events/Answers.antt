@@ -18,7 +18,8 @@ give_events-requires g c =
             stands.3.0,
             stands.3.1,
             stands.3.2,
-            c.resume.ensures.keeps stands.0 stands.3.0 stands.3.1 stands.3.2 stands.3.3,
+            stands.3.3,
+            c.resume.ensures.keeps stands.0 stands.3.3 stands.3.0 stands.3.1 stands.3.2 stands.3.4,
           ),
         ),
         c.resume.ensures.stop,
@@ -26,10 +27,10 @@ give_events-requires g c =
     )
 
 pub returns-clause-keeps : goal.returns-clause-keeps
-returns-clause-keeps g c = λ shown ends shows told script config goes.
-    stands_from c.give_events.ensures.waits
-    (c.give_events.ensures.keeps shown ends shows told script config
-    (c.resume.ensures.keeps shown told script config goes))
+returns-clause-keeps g c = λ shown ends shows begun told script config goes.
+    let after = c.give_events.ensures.keeps shown ends shows begun told script config
+    (c.resume.ensures.keeps shown begun told script config goes) in
+    (stands_from c.give_events.ensures.waits after, after.tied)
 
 pub returns-clause-rests : goal.returns-clause-rests
 returns-clause-rests g c =

@@ -9,7 +9,7 @@ use Rattle.melt_step.proofs.epoch.take_turn.Goals.{In_ok-thread}
 
 pub next-requires : goal.next-requires
 next-requires g c =
-    let table = c.requires.stands.3.3.table in
+    let table = c.requires.stands.3.4.table in
     omega (arith, ap length c.deref.ensures.value, table.count, table.threads, table.stands.few)
 
 -- the thread that was given

@@ -4,17 +4,22 @@ use Rattle.std.specs.Prelude.{◌≡◌}
 use Rattle.melt_record.specs.declared.damage.Damaged.{Damaged as Damage}
 use Rattle.melt_core.specs.declared.answer.Refusal.TheVariants.{Damaged}
 use Rattle.melt_core.specs.Views.{view}
-use Rattle.melt_core.specs.Advances.{IsDamage}
-use Rattle.melt_core.specs.declared.answer.StepResult.TheVariants.{Refused}
+use Rattle.melt_core.specs.Advances.{IsDamage, MayAdvance, MayMakeEvent}
+use Rattle.melt_core.specs.StaleBits.{TiedTo}
+use Rattle.melt_core.specs.declared.answer.StepResult.TheVariants.{Answered, Going, Refused}
 use Rattle.melt_safepoint.specs.declared.thread.ThreadState.{ThreadState}
 use Rattle.melt_safepoint.specs.Losses.{CountsLoss}
+use Rattle.melt_safepoint.specs.Modes.{mode_for}
 use Rattle.melt_safepoint.proofs.Losses.{counts_none, refused_counts, told_kept}
 use Rattle.melt_safepoint.specs.Tables.{SetsStop, TakesTurn}
 use Rattle.melt_safepoint.specs.Threads.{DueBy}
 use Rattle.melt_step.proofs.Calling.{begins_ready, goes_sets, goes_step, refused_call, refused_sets, refused_step}
 use Rattle.melt_step.proofs.Calling.{thread_there, told_sets, told_step, waits_step}
 use Rattle.melt_safepoint.proofs.WordsMade.{made_ended, made_stopped}
+use Rattle.melt_step.proofs.Tied.{drop_ties, event_ties}
+use Rattle.melt_step.proofs.events.make_event.Given.{Over}
 use Rattle.melt_step.proofs.events.make_event.Goals as goal
+use Rattle.melt_step.proofs.events.make_event.Goals.{After-advance}
 
 pub returns-in-Running-Some-Collect-clause-step : goal.returns-in-Running-Some-Collect-clause-step
 returns-in-Running-Some-Collect-clause-step g c told disk under stands =
@@ -24,6 +29,16 @@ returns-in-Running-Some-Collect-clause-step g c told disk under stands =
 pub returns-in-Running-Some-Collect-clause-makes : goal.returns-in-Running-Some-Collect-clause-makes
 returns-in-Running-Some-Collect-clause-makes g c disk under stands =
     made_stopped (view c.args.core.now) (view c.ask.new.self) c.ask.ensures
+
+pub returns-in-Running-Some-Collect-clause-ties : goal.returns-in-Running-Some-Collect-clause-ties
+returns-in-Running-Some-Collect-clause-ties g c begun disk under stands sixteen tied =
+    subst (TiedTo begun) (sym c.ask.ensures) tied
+
+-- the thread may make its event
+may : (g : Over) (c : After-advance g) → MayMakeEvent (view c.args.core.now) c.args.thread c.in-Running-Some.op
+may g c =
+    let advances : MayAdvance c.args.end (view c.args.core.now) c.args.thread c.in-Running-Some.op = search rules in
+    record { disk = advances.disk; asks = advances.asks }
 
 pub answered-requires : goal.answered-requires
 answered-requires g c = record {
@@ -54,6 +69,7 @@ returns-in-Going g c = record {
   due = λ other. absurd (other refl);
   image = search rules;
   makes = λ disk under. (c.in-Going.ensures.advances.over disk under.ends).makes (under.tells refl);
+  ties = event_ties Going (may g (goal.at.returns-in-Going g c).After-advance) c.in-Going.ensures.advances.over;
   lost = counts_none c.args.state.now c.args.state.now _ _ (search rules) (search rules);
 }
 
@@ -74,6 +90,11 @@ returns-in-Answered g c = record {
       made_ended (view c.advance.new.self) (view c.answered.new.core) c.args.thread c.answered.new.state.mode
       c.answered.ensures.drops past
       ((c.in-Answered.ensures.advances.over disk under.ends).makes (under.tells refl) stands past had);
+  ties = λ begun disk under stands sixteen tied.
+      drop_ties begun (view c.advance.new.self) (view c.answered.new.core) c.args.thread c.answered.new.state.mode
+      c.answered.ensures.drops
+      (event_ties (Answered c.in-Answered.reply) (may g (goal.at.returns-in-Answered g c).After-advance)
+      c.in-Answered.ensures.advances.over begun disk under stands sixteen tied);
   lost =
       counts_none c.args.state.now c.answered.new.state _ _
       (told_kept c.args.state.now c.answered.new.state c.in-Answered.reply c.answered.ensures.takes) (search rules);
@@ -105,6 +126,11 @@ returns-in-Refused g c =
       makes = λ disk under stands past had.
           made_ended (view c.advance.new.self) (view c.refused.new.core) c.args.thread _ drops past
           ((c.in-Refused.ensures.advances.over disk under.ends).makes (under.tells refl) stands past had);
+      ties = λ begun disk under stands sixteen tied.
+          drop_ties begun (view c.advance.new.self) (view c.refused.new.core) c.args.thread
+          (mode_for c.in-Refused.refusal) drops
+          (event_ties (Refused c.in-Refused.refusal) (may g (goal.at.returns-in-Refused g c).After-advance)
+          c.in-Refused.ensures.advances.over begun disk under stands sixteen tied);
       lost =
           subst (λ (after : ThreadState). CountsLoss c.args.state.now after
           (g.R.RecordReader.faults c.args.reader.now) (g.R.RecordReader.faults c.advance.new.reader))
@@ -120,3 +146,7 @@ returns-in_default-clause-step g c told disk under stands =
 pub returns-in_default-clause-makes : goal.returns-in_default-clause-makes
 returns-in_default-clause-makes g c disk under stands =
     made_stopped (view c.args.core.now) (view c.ask-in_default.new.self) c.ask-in_default.ensures
+
+pub returns-in_default-clause-ties : goal.returns-in_default-clause-ties
+returns-in_default-clause-ties g c begun disk under stands sixteen tied =
+    subst (TiedTo begun) (sym c.ask-in_default.ensures) tied

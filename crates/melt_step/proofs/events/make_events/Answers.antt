@@ -8,18 +8,21 @@ use Rattle.melt_core.specs.declared.answer.StepResult.{StepResult}
 use Rattle.melt_core.specs.declared.answer.StepResult.TheVariants.{Answered, Going, Refused}
 use Rattle.melt_core.specs.declared.call.Call.{Call}
 use Rattle.melt_core.specs.Advances.{Advances, IsDamage, MayAdvance, MakesEvent, MakesEventsBy, MakesEvents}
+use Rattle.melt_core.specs.Advances.{MayMakeEvent}
 use Rattle.melt_core.specs.Stages.{NeedsNoRead}
 use Rattle.melt_core.specs.Views.{Standing, call_in, call_of, stage_in, stage_of, view}
 use Rattle.melt_core.proofs.Disks.{moves_advance}
 use Rattle.melt_core.proofs.ReadsLeft.{no_damage, uses_nothing}
 use Rattle.melt_safepoint.specs.declared.thread.ThreadState.{ThreadState}
 use Rattle.melt_safepoint.specs.Losses.{CountsLoss}
+use Rattle.melt_safepoint.specs.Modes.{mode_for}
 use Rattle.melt_safepoint.specs.Tables.{SetsStop, TakesTurn}
 use Rattle.melt_safepoint.proofs.Losses.{refused_counts}
 use Rattle.melt_safepoint.proofs.WordsMade.{made_ended}
 use Rattle.melt_step.proofs.AtOnce.{LastEvent, all_made, at_once_goes, at_once_told, gone_none, last_event}
 use Rattle.melt_step.proofs.Calling.{KeepsOthers_both, begins_ready, goes_sets, refused_call, refused_sets, refused_step}
 use Rattle.melt_step.proofs.Calling.{calls_dropped, thread_there, told_sets}
+use Rattle.melt_step.proofs.Tied.{drop_ties, events_tie}
 use Rattle.melt_step.proofs.events.make_events.Goals as goal
 use Rattle.melt_step.proofs.events.make_events.Goals.{After-call_at_once}
 use Rattle.melt_step.proofs.events.make_events.Given.{Over}
@@ -69,6 +72,12 @@ only g c why on =
     subst (λ n. MakesEventsBy n (view c.args.core.now) (view c.call_at_once.new.self) c.args.thread c.in-Some.op
     (Refused why)) (on.refused why refl) on.moves
 
+-- the thread may make the first one
+may : (g : Over) (c : After-call_at_once g) → MayMakeEvent (view c.args.core.now) c.args.thread c.in-Some.op
+may g c =
+    let advances : MayAdvance c.args.end (view c.args.core.now) c.args.thread c.in-Some.op = search rules in
+    record { disk = advances.disk; asks = advances.asks }
+
 -- and so it reads nothing
 no_read : (g : Over) (c : After-call_at_once g) → NeedsNoRead (stage_of (view c.args.core.now) c.args.thread)
 no_read g c = subst (λ (x : Option Call). NeedsNoRead (stage_in x)) (sym (none g c)) tt
@@ -114,6 +123,11 @@ returns-in-Going-clause-makes g c disk under stands =
     (last g (goal.at.returns-in-Going-clause-makes g c).After-call_at_once Going c.in-Going.ensures true disk stands)
     refl
 
+pub returns-in-Going-clause-ties : goal.returns-in-Going-clause-ties
+returns-in-Going-clause-ties g c =
+    events_tie c.in-Going.ensures.more (view c.call_at_once.new.self) Going (may g (goal.at.returns-in-Going-clause-ties g c).After-call_at_once)
+    c.in-Going.ensures.moves
+
 pub returns-in-Answered-clause-step : goal.returns-in-Answered-clause-step
 returns-in-Answered-clause-step g c told disk under stands =
     at_once_told (view c.answered.new.core) c.in-Some.ensures.running c.in-Some.ensures.next
@@ -135,6 +149,14 @@ returns-in-Answered-clause-makes g c disk under stands past had =
     c.answered.ensures.drops past
     (all_made (last g (goal.at.returns-in-Answered-clause-makes g c).After-call_at_once (Answered c.in-Answered.reply)
     c.in-Answered.ensures true disk stands) refl past had)
+
+pub returns-in-Answered-clause-ties : goal.returns-in-Answered-clause-ties
+returns-in-Answered-clause-ties g c begun disk under stands sixteen tied =
+    drop_ties begun (view c.call_at_once.new.self) (view c.answered.new.core) c.args.thread c.answered.new.state.mode
+    c.answered.ensures.drops
+    (events_tie c.in-Answered.ensures.more (view c.call_at_once.new.self) (Answered c.in-Answered.reply)
+    (may g (goal.at.returns-in-Answered-clause-ties g c).After-call_at_once) c.in-Answered.ensures.moves begun disk
+    under stands sixteen tied)
 
 pub returns-in-Refused-clause-step : goal.returns-in-Refused-clause-step
 returns-in-Refused-clause-step g c =
@@ -170,6 +192,14 @@ returns-in-Refused-clause-makes g c disk under stands past had =
     made_ended (view c.call_at_once.new.self) (view c.refused.new.core) c.args.thread _ c.refused.ensures.drops past
     (all_made (last g (goal.at.returns-in-Refused-clause-makes g c).After-call_at_once (Refused c.in-Refused.refusal)
     c.in-Refused.ensures true disk stands) refl past had)
+
+pub returns-in-Refused-clause-ties : goal.returns-in-Refused-clause-ties
+returns-in-Refused-clause-ties g c begun disk under stands sixteen tied =
+    drop_ties begun (view c.call_at_once.new.self) (view c.refused.new.core) c.args.thread
+    (mode_for c.in-Refused.refusal) c.refused.ensures.drops
+    (events_tie c.in-Refused.ensures.more (view c.call_at_once.new.self) (Refused c.in-Refused.refusal)
+    (may g (goal.at.returns-in-Refused-clause-ties g c).After-call_at_once) c.in-Refused.ensures.moves begun disk
+    under stands sixteen tied)
 
 pub returns-in-Refused-clause-lost : goal.returns-in-Refused-clause-lost
 returns-in-Refused-clause-lost g c =
