@@ -18,11 +18,12 @@ use Rattle.melt_scion.specs.GhostMaps.{named}
 use Rattle.melt_scion.specs.Heaps.{OnDisk}
 use Rattle.melt_scion.specs.Placed.{HeadIs}
 use Rattle.melt_core.specs.Made.{HasMade}
-use Rattle.melt_core.specs.Views.{View, value, values_of}
+use Rattle.melt_core.specs.StaleBits.{BitsTold, sight}
+use Rattle.melt_core.specs.Views.{Standing, View, value, values_of}
 use Rattle.melt_rule.specs.Shown.{base_at}
 use Rattle.melt_rule.specs.declared.began.Began.{Began}
 use Rattle.melt_safepoint.specs.Collections.{AllMarked, MadeSoFar, NoneForwarded}
-use Rattle.melt_safepoint.specs.Endings.{HaveMoments}
+use Rattle.melt_safepoint.specs.Endings.{TiedMoments}
 use Rattle.melt_safepoint.specs.Needs.{NeedsObject, NeedsWords}
 use Rattle.melt_safepoint.specs.Rows.{AwaitsCall, CollectorStands, LacksWords, Row, StandsBut}
 use Rattle.melt_safepoint.specs.Shown.{Shown, Underlies}
@@ -30,6 +31,7 @@ use Rattle.melt_safepoint.specs.Tables.{Renewed, TableStands}
 use Rattle.melt_safepoint.specs.declared.collector.Collector.{Collector}
 use Rattle.melt_safepoint.specs.declared.thread.ThreadState.{ThreadState}
 use Rattle.melt_safepoint.proofs.LackingWords.{lacks_words}
+use Rattle.melt_safepoint.proofs.Staying.{one_address, tied_still}
 use Rattle.melt_safepoint.proofs.TableCounts.{counts_of}
 use Rattle.melt_safepoint.proofs.Tables.{Table_renewed}
 use Rattle.melt_pool.specs.Epochs.{NeedsFrom, RefersTo}
@@ -42,6 +44,7 @@ pub record NothingDone (told : Bool) (b : Began) (shown : Shown) (old new : Row)
   pub none_free : disk.free_homes ≡ []
   pub renewed : Renewed told disk old.view new.view
   pub marked : told ≡ true → AllMarked old.view → AllMarked new.view
+  pub bits : told ≡ true → BitsTold (sight old.view) (sight new.view)
   pub made : told ≡ true → (past : ℕ) → HasMade past old.view → HasMade past new.view
   pub nowhere : told ≡ true → (home n : ℕ) (z : Shape) → named b.maps.homes home ≡ Some n
       → HeadIs (base_at b) home (record { shape = z; kind = Body }) → Held (value new.view) n → ⊥
@@ -71,11 +74,12 @@ nothing_stands {unpaid} {told} {script} {config} {shown} {old} {new} stands done
   told_is = done.told_same ∙ stands.told_is;
   collector = subst (CollectorStands config shown) (sym done.collector) stands.collector;
   moments = λ tells.
-      subst (λ (c : Collector). HaveMoments script new.view.log new.states config c.journal.items) (sym done.collector)
-      (subst (λ (xs : List ThreadState). HaveMoments script new.view.log xs config old.collector.journal.items)
+      subst (λ (c : Collector). TiedMoments script (sight new.view) new.states config c.journal.items) (sym done.collector)
+      (subst (λ (xs : List ThreadState). TiedMoments script (sight new.view) xs config old.collector.journal.items)
       (sym done.states)
-      (subst (λ (h : List Entry). HaveMoments script h old.states config old.collector.journal.items)
-      (sym done.renewed.history) (stands.moments tells)));
+      (tied_still done.renewed.history
+      (one_address (subst (λ (b : Bool). Standing b done.disk new.view) tells done.renewed.stands)) (done.bits tells)
+      (stands.moments tells)));
   made = λ tells. subst (λ (c : Collector). MadeSoFar config new.view c.journal.items) (sym done.collector)
       (done.made tells _ (stands.made tells));
   counts = counts_of script config new old.states old.collector done.states done.collector stands.counts;
@@ -139,6 +143,7 @@ lacked_from {told} {script} {config} {forced} {b} {old} {new} {t} need awaits do
       small = small;
       none_forwarded = none;
       marked = done.marked;
+      bits = done.bits;
       op = o;
       next = next;
       needs = λ tells. from_needs b v t o need same

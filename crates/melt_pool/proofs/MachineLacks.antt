@@ -161,6 +161,8 @@ module _ {R : Type 0} (image : R → Option (List ℕ)) (faults : R → ℕ) (wo
         marked = λ tells.
             lacked_marked image faults told words heap new h k finish registers states ms ns t need armed lacked sized
             nameless disk stands tells;
+        bits = λ tells.
+            ended_bits (image_of image) told heap new h k finish registers ms lacked.seats nameless lacked.ended tells;
         made = λ tells.
             ended_made (image_of image) told heap new h k finish registers ms lacked.seats nameless lacked.ended disk
             stands tells;

@@ -1,5 +1,5 @@
 -- A run of real threads stands after an epoch.
-use Rattle.std.proofs.Common.{◌≡◌, ◌⊎◌, ℕ, suc, ◌<◌, ◌≤◌, true, List, [], length, refl, sym, ◌∙◌, subst, arith}
+use Rattle.std.proofs.Common.{◌≡◌, ◌⊎◌, ℕ, suc, ◌<◌, ◌≤◌, true, List, [], ◌++◌, length, refl, sym, ◌∙◌, subst, arith}
 use Rattle.std.proofs.Common.{inl, inr}
 use Rattle.std.proofs.lemmas.Option.{slice_get_within}
 use Rattle.std.specs.Prelude.{Bool, IfSome, None, Option, Some}
@@ -16,7 +16,8 @@ use Rattle.melt_rule.specs.declared.began.Began.{Began}
 use Rattle.melt_epoch.specs.declared.mutator.Mutator.{Mutator}
 use Rattle.melt_safepoint.specs.Collections.{MadeSoFar}
 use Rattle.melt_safepoint.specs.Counts.{CountsCollections}
-use Rattle.melt_safepoint.specs.Endings.{HaveMoments}
+use Rattle.melt_safepoint.specs.Endings.{TiedMoments}
+use Rattle.melt_safepoint.proofs.Staying.{one_address, tied_grown}
 use Rattle.melt_safepoint.specs.Epochs.{MayRunEpoch, RestsWell, RunsEpoch, SomeMayRun, to_do}
 use Rattle.melt_safepoint.specs.Rows.{CollectorStands, Row, RunStands, StandsBut}
 use Rattle.melt_safepoint.specs.Shown.{Shown, Underlies}
@@ -151,12 +152,19 @@ module _ {R : Type 0} (image : R → Option (List ℕ)) (faults : R → ℕ) (wo
           told_is = leaves.told;
           collector = subst (CollectorStands config shown) (sym leaves.collector) stands.collector;
           moments = λ tells.
-              subst (λ (c : Collector). HaveMoments script new.view.log new.states config c.journal.items)
+              let grown : (more : List Entry) × (new.view.log ≡ old.view.log ++ more) =
+              threads.passed_grown old.told script config stands.disk old.view old.states image faults words registers
+              ms b is_told history table armed globals finish old.every first ns heap h passed new.states
+              registers_after ms_after disarmed shows.0 new.view shows.3 within stands.every in
+              subst (λ (c : Collector). TiedMoments script (sight new.view) new.states config c.journal.items)
               (sym leaves.collector)
+              (tied_grown new.states grown.0 grown.1
+              (one_address (subst (λ (c : Bool). Standing c shows.0 new.view) tells shows.3.stands))
+              (leaves.bits tells) (stands.moments tells)
               (threads.passed_moments_shown old.told script config stands.disk old.view old.states image faults words
               registers ms b is_told history table armed globals finish old.every first ns heap h passed new.states
               registers_after ms_after disarmed shows.0 new.view shows.3 within stands.every
-              old.collector.journal.items (stands.moments tells));
+              old.collector.journal.items (stands.moments tells).moments (stands.moments tells).have));
           made = λ tells.
               subst (λ (c : Collector). MadeSoFar config new.view c.journal.items) (sym leaves.collector)
               (leaves.made tells stands.disk

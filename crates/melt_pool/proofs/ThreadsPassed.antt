@@ -24,7 +24,7 @@ use Rattle.melt_rule.specs.declared.began.Began.{Began}
 use Rattle.melt_epoch.specs.Ends.{SomeCause, unseated, view_of}
 use Rattle.melt_epoch.specs.declared.mutator.Mutator.{Mutator}
 use Rattle.melt_safepoint.specs.Counts.{CountsCollections}
-use Rattle.melt_safepoint.specs.Cuts.{IsDue}
+use Rattle.melt_safepoint.specs.Cuts.{IsDue, Moment}
 use Rattle.melt_safepoint.specs.Endings.{EndsSo, HaveMoments}
 use Rattle.melt_safepoint.specs.Epochs.{RestsWell, to_do}
 use Rattle.melt_safepoint.specs.Losses.{CountsLosses, losses, open_faults}
@@ -275,10 +275,10 @@ module _ {R : Type 0} (told : Bool) (script : Script) (config : Config) (disk : 
       had_room tells u count lost (Ended end.Halted) ends none = none
 
   -- the moments of the run stay so
-  pub passed_moments : (journal : List Journal) → HaveMoments script v.log states config journal
-      → HaveMoments script h after config journal
-  passed_moments journal have =
-      subst (λ (g : List Entry). HaveMoments script g after config journal) goes_on.1
+  pub passed_moments : (journal : List Journal) (moments : List Moment)
+      → HaveMoments script v.log states config journal moments → HaveMoments script h after config journal moments
+  passed_moments journal moments have =
+      subst (λ (g : List Entry). HaveMoments script g after config journal moments) goes_on.1
       (HaveMoments_later script v.log goes_on.0 config journal passed_later passed_room have)
 
   -- the collections stay counted, and those that are unpaid are paid where the call of one was made first
@@ -509,7 +509,13 @@ module _ {R : Type 0} (told : Bool) (script : Script) (config : Config) (disk : 
     }
 
     -- and so the moments of collections stay in what the run shows
-    pub passed_moments_shown : (journal : List Journal) → HaveMoments script v.log states config journal
-        → HaveMoments script w.log after config journal
-    passed_moments_shown journal have =
-        subst (λ (g : List Entry). HaveMoments script g after config journal) (sym shows.log) (passed_moments journal have)
+    pub passed_moments_shown : (journal : List Journal) (moments : List Moment)
+        → HaveMoments script v.log states config journal moments
+        → HaveMoments script w.log after config journal moments
+    passed_moments_shown journal moments have =
+        subst (λ (g : List Entry). HaveMoments script g after config journal moments) (sym shows.log)
+        (passed_moments journal moments have)
+
+    -- which has grown
+    pub passed_grown : (more : List Entry) × (w.log ≡ v.log ++ more)
+    passed_grown = (goes_on.0, shows.log ∙ sym goes_on.1)

@@ -11,7 +11,7 @@ use Rattle.melt_word.specs.Words.{header_word}
 use Rattle.melt_word.specs.declared.header.Header.{Header}
 use Rattle.melt_scion.specs.State.{State, HeaderAt, ObjectAt, HoldsAt, Reached}
 use Rattle.melt_scion.specs.Placed.{Maps, Placed, value_at}
-use Rattle.melt_scion.specs.Moves.{Arrives, BitGoes, Leaves}
+use Rattle.melt_scion.specs.Moves.{Arrives, BitGoes, Leaves, NamesHomes}
 use Rattle.melt_scion.specs.Heaps.{OnDisk, state_of}
 use Rattle.melt_scion.specs.declared.heap.Names as name_table
 use Rattle.melt_scion.specs.declared.heap.Heap.{Heap}
@@ -23,10 +23,10 @@ use Rattle.melt_scion.proofs.Reaching.{held_address, reached_named, value_held}
 use Rattle.melt_move.specs.Collecting.{Counts as CountsEach}
 use Rattle.melt_core.specs.StaleBits.{BitIs, HasBit, sight}
 use Rattle.melt_core.specs.Views.{View, InUse, maps, maps_of, value}
-use Rattle.melt_safepoint.specs.Bits.{BitsAfter, IsTakenAway, TakesAway}
+use Rattle.melt_safepoint.specs.Bits.{BitsAfter, IsOnDisk, IsTakenAway, TakesAway}
 use Rattle.melt_safepoint.specs.Resting.{Beside, with_names_held, rest_view}
 use Rattle.melt_safepoint.proofs.Collecting.{RestsOver, placed_told, maps_after}
-use Rattle.melt_safepoint.proofs.Found.{alive_reached}
+use Rattle.melt_safepoint.proofs.Found.{alive_reached, home_reached}
 use Rattle.melt_safepoint.proofs.MovedSums.{contains_or_not, distinct, moved_from, moved_there}
 use Rattle.melt_safepoint.proofs.PlannedRest.{Carried}
 
@@ -240,20 +240,45 @@ module _ (told : Bool) (phase : Phase) (disk : OnDisk) (heap new : Heap) (b : Be
             )
       ]
 
-  -- what is alive and was in use stays, or was taken away
+  -- what is reached stays, or was taken away
+  reached_stays : (a n : ℕ) → m.address a ≡ Some n → Reached s a
+      → InUse (maps w) n ⊎ Contains (map number left.members) n
+  reached_stays a n named reached = elim (c.was.collected.words.chooses.go a reached) [
+    | inl stays ↦ inl (named_after a n named stays)
+    | inr leaves ↦ inr (
+        subst (Contains (map number left.members)) (number_is a n named)
+        (moved_there number left.members a ((left.all a).0 leaves))
+        )
+  ]
+
+  -- so does what is alive and was in use
   alive_stays : (n : ℕ) → InUse m n → Alive b.log (value v) n
       → InUse (maps w) n ⊎ Contains (map number left.members) n
-  alive_stays n in_use alive =
-      let a : ℕ = in_use.0 in
-      let reached : Reached s a =
-      alive_reached b.log (value v) m s (c.at_mid.stands.legal tells) placed_mid c.was.collected.words.settled n a alive
-      in_use.1 in
-      elim (c.was.collected.words.chooses.go a reached) [
-        | inl stays ↦ inl (named_after a n in_use.1 stays)
-        | inr leaves ↦ inr (
-            subst (Contains (map number left.members)) (number_is a n in_use.1)
-            (moved_there number left.members a ((left.all a).0 leaves))
-            )
+  alive_stays n in_use alive = reached_stays in_use.0 n in_use.1
+      (alive_reached b.log (value v) m s (c.at_mid.stands.legal tells) placed_mid c.was.collected.words.settled n in_use.0
+      alive in_use.1)
+
+  -- what lies on the disk after it did before, or was taken away: its scion, if it had one, was a root
+  lies_away : (n : ℕ) → IsOnDisk (maps w) n → IsOnDisk m n ⊎ Contains (map number left.members) n
+  lies_away n there =
+      let homes : NamesHomes m c.was.after s c.was.home = c.was.collected.homes b.log placed_mid.tells in
+      let named : c.was.after.home there.home ≡ Some n =
+      subst (λ (x : Maps). x.home there.home ≡ Some n)
+      (sym (maps_after phase finish image journal told c.between c.mid new b names registers c.at_mid c.at_rest.names
+      c.was)) there.named in
+      let goes : (a : ℕ) → m.address a ≡ Some n → Reached s a → IsOnDisk m n ⊎ Contains (map number left.members) n =
+      λ a is reached. elim (reached_stays a n is reached) [
+        | inl stays ↦ absurd (there.nowhere stays)
+        | inr leaves ↦ inr leaves
+      ] in
+      elim (homes.only there.home n named) [
+        | inl old ↦
+            elim (home_reached b.log (value v) m s (c.at_mid.stands.legal tells) placed_mid
+            c.was.collected.words.settled there.home n old) [
+              | inl at ↦ goes at.0 at.1 at.2
+              | inr away ↦ inl away
+            ]
+        | inr given ↦ goes given.0 given.3 given.1.reached
       ]
 
   -- what a collection takes away
@@ -274,4 +299,5 @@ module _ (told : Bool) (phase : Phase) (disk : OnDisk) (heap new : Heap) (b : Be
     others = alive_stays;
     none_new = λ n in_use.
         let from = named_before in_use.0 n in_use.1 in (from.0, from.3);
+    away = lies_away;
   }

@@ -16,8 +16,10 @@ use Rattle.melt_safepoint.specs.Threads.{AllEnded, AreNewThreads}
 use Rattle.melt_safepoint.specs.Journals.{before, next_of, end_of, IsJournalOf}
 use Rattle.melt_safepoint.specs.Made.{MakesWithin}
 use Rattle.melt_safepoint.specs.Shown.{Shown}
-use Rattle.melt_safepoint.specs.Endings.{HaveMoments}
-use Rattle.melt_safepoint.proofs.InOrder.{no_moments}
+use Rattle.melt_safepoint.specs.Endings.{HaveMoments, SomeMoments}
+use Rattle.melt_safepoint.proofs.Collecting.{placed_told}
+use Rattle.melt_safepoint.proofs.InOrder.{no_moments, some_of}
+use Rattle.melt_safepoint.proofs.Staying.{keeps_begin}
 use Rattle.melt_safepoint.proofs.Shown.{bare, bare_none_free, bare_shown}
 use Rattle.melt_safepoint.proofs.Starting.{counts_new, none_new}
 use Rattle.melt_safepoint.specs.declared.collector.Collector.{Collector}
@@ -72,8 +74,13 @@ Run_new told script config shown entries run ranges ends limits some table quiet
       every = every;
       told_is = told_is;
       collector = Collector_new config shown run.collector ranges ends limits none plan;
-      moments = λ is. subst (HaveMoments script run.view.log states config) (sym none)
-          (no_moments script run.view.log states config (none_new new_states));
+      moments = λ is. record {
+        moments = [];
+        have = subst (λ (js : List Journal). HaveMoments script run.view.log states config js []) (sym none)
+            (no_moments script run.view.log states config (none_new new_states));
+        bits = keeps_begin script (bare shown.image) run.view (placed_told told (bare shown.image) run.view table.stands is)
+            history;
+      };
       made = λ is. made_nothing config run.view run.collector.journal.items (table.stands.counts is) history;
       counts = subst (λ (js : List Journal). CountsCollections script config 0 states (length js)) (sym none)
           (counts_new script config entries states new_states);
@@ -102,9 +109,9 @@ ended_all told script config shown run ended stands over ends =
       v = w;
       states = states;
       table = Table_renewed stands.table renewed;
-      moments = λ is. subst (λ (h : List Entry). HaveMoments script h states config ended.journal.items)
+      moments = λ is. subst (λ (h : List Entry). SomeMoments script h states config ended.journal.items)
           (sym renewed.history)
-          (subst (HaveMoments script v.log states config) (sym ends.journal) (stands.moments is));
+          (subst (SomeMoments script v.log states config) (sym ends.journal) (some_of (stands.moments is)));
       journal = subst (IsJournalOf config) (sym ends.journal) stands.collector.journal;
       made = λ is. subst (λ (h : List Entry). MakesWithin config h ended.journal.items) (sym renewed.history)
           (subst (MakesWithin config v.log) (sym ends.journal) (run_within is stands));

@@ -16,6 +16,7 @@ use Rattle.melt_scion.specs.Heaps.{OnDisk}
 use Rattle.melt_scion.specs.declared.heap.Heap.{Heap}
 use Rattle.melt_move.specs.Planned.{phase_done, plan_after}
 use Rattle.melt_move.specs.declared.planned.Plan.{Plan}
+use Rattle.melt_core.specs.StaleBits.{Sight, sight}
 use Rattle.melt_core.specs.Views.{View}
 use Rattle.melt_core.proofs.Disks.{stands_untold}
 use Rattle.melt_safepoint.specs.declared.thread.ThreadState.{ThreadState}
@@ -29,12 +30,12 @@ use Rattle.melt_safepoint.specs.Journals.{next_of, before, end_of, IsTight, MayM
 use Rattle.melt_safepoint.specs.Counts.{CountsCollections}
 use Rattle.melt_safepoint.specs.Made.{MakesWithin}
 use Rattle.melt_safepoint.specs.Shown.{Shown}
-use Rattle.melt_safepoint.specs.Endings.{HaveMoments, RestMoments}
+use Rattle.melt_safepoint.specs.Endings.{RestMoments, SomeMoments}
 use Rattle.melt_safepoint.proofs.AtSafepoint.{JustMade, made_now}
 use Rattle.melt_safepoint.proofs.Counting.{Spare, counts_made_more, counts_spare}
 use Rattle.melt_safepoint.proofs.Journals.{before_end, MayBe, journal_push, may_be, may_move, phase_cases, plan_for}
 use Rattle.melt_safepoint.proofs.Journals.{MayOwe}
-use Rattle.melt_safepoint.specs.Collections.{CollectsCore, CollectedOver, FullOver, Gathers, IsFullCore, IsRefusedCore}
+use Rattle.melt_safepoint.specs.Collections.{CollectsCore, CollectedOver, FullOver, IsFullCore, IsRefusedCore}
 use Rattle.melt_safepoint.specs.Collections.{MayCollect}
 use Rattle.melt_safepoint.specs.Ended.{EndsBy, EndsFull, EndedStands}
 use Rattle.melt_safepoint.specs.Collections.{NoneForwarded}
@@ -47,7 +48,8 @@ use Rattle.melt_safepoint.specs.declared.collector.CollectRefusal.{CollectRefusa
 use Rattle.melt_safepoint.specs.declared.collector.CollectRefusal.TheVariants as refused
 use Rattle.melt_safepoint.specs.declared.ending.Ended.{Ended}
 use Rattle.melt_safepoint.specs.declared.ending.Left.{Left}
-use Rattle.melt_safepoint.proofs.Moments.{counts_now, moment_now}
+use Rattle.melt_safepoint.proofs.InOrder.{some_of}
+use Rattle.melt_safepoint.proofs.Moments.{counts_now}
 use Rattle.melt_safepoint.proofs.Tables.{Table_renewed}
 use Rattle.melt_safepoint.proofs.WordsMade.{made_collected, run_within}
 
@@ -113,14 +115,15 @@ journal_count {old} collects =
     ap length collects.journal ∙ length-append old.journal.items (collects.entry ∷ [])
 
 -- each collection has its moment, and now is that of one more
-moments_more : {script : Script} {config : Config} {disk : OnDisk} {v : View} (w : View) {states : List ThreadState}
-    (js : List Journal) {entry : Journal} {unpaid : ℕ} → TableStands true script config disk v states
-    → Gathers v entry → CountsCollections script config unpaid states (length js) → w.log ≡ v.log
-    → RestMoments script v.log states config js → JustMade script w.log states config (js ++ entry ∷ [])
-moments_more {script} {config} {disk} {v} w {states} js {entry} {unpaid} table gathers counts history rest =
-    subst (λ (h : List Entry). JustMade script h states config (js ++ entry ∷ [])) (sym history)
-    (made_now js entry table rest (moment_now script config disk v states js entry table gathers)
-    (counts_now script config unpaid v.log states (length js) table.count table.due counts))
+moments_more : {script : Script} {config : Config} {phase : Phase} {later : Shown} {free : List ℕ} {v w : View}
+    {disk : OnDisk} {states : List ThreadState} (js : List Journal) {entry : Journal} {unpaid : ℕ}
+    → TableStands true script config disk v states → CollectedOver true phase later free v w entry
+    → entry.phase ≡ phase → CountsCollections script config unpaid states (length js)
+    → RestMoments script (sight v) states config js → JustMade script (sight w) states config (js ++ entry ∷ [])
+moments_more {script} {config} {v = v} {w = w} {states = states} js {entry} {unpaid} table over of_phase counts rest =
+    made_now w js entry table rest
+    (counts_now script config unpaid v.log states (length js) table.count table.due counts) (over.gathers refl) of_phase
+    over.renewed.history (over.bits refl) (over.takes refl)
 
 -- what a collection left, over the disk under a run
 abbrev pub Over : ℕ → Bool → Script → Config → Bool → (shown later : Shown) → (old new : Row) → Type 0
@@ -147,16 +150,15 @@ collected_table {unpaid} {told} {script} {config} {new} over =
 -- and so do the moments of the run, told as the view before it tells
 pub collected_moments : {unpaid : ℕ} (told : Bool) {script : Script} {config : Config} {force : Bool}
     {shown later : Shown} {old new : Row} → told ≡ true → Over unpaid told script config force shown later old new
-    → RestsSo told script config old → JustMade script new.view.log new.states config new.collector.journal.items
-collected_moments {unpaid} true {script} {config} {old} {new} is over rests =
-    let w : View = new.view in
+    → RestsSo told script config old → JustMade script (sight new.view) new.states config new.collector.journal.items
+collected_moments {unpaid} true {script} {config} {old = old} {new = new} is over rests =
+    let s : Sight = sight new.view in
     let entry : Journal = over.1.collects.entry in
-    let more : JustMade script w.log old.states config (old.collector.journal.items ++ entry ∷ []) =
-    moments_more w old.collector.journal.items over.0.table (over.2.gathers refl) over.0.counts over.2.renewed.history
-    (rests refl) in
-    subst (λ (xs : List ThreadState). JustMade script w.log xs config new.collector.journal.items) (sym over.1.states)
-    (subst (JustMade script w.log old.states config) (sym over.1.collects.journal) more)
-collected_moments {unpaid} false {script} {config} {old} {new} is over rests =
+    let more : JustMade script s old.states config (old.collector.journal.items ++ entry ∷ []) =
+    moments_more old.collector.journal.items over.0.table over.2 over.1.collects.of_phase over.0.counts (rests refl) in
+    subst (λ (xs : List ThreadState). JustMade script s xs config new.collector.journal.items) (sym over.1.states)
+    (subst (JustMade script s old.states config) (sym over.1.collects.journal) more)
+collected_moments false is over rests =
     absurd (let wrong : false ≡ true = is in cc)
 
 -- one entry more
@@ -221,7 +223,7 @@ stands_collected {unpaid} {told} {script} {config} {force} {shown} {later} {old}
       every = made.every ∙ stands.every;
       told_is = made.told ∙ stands.told_is;
       collector = collector_more force stands.collector made.collects stands.table.words tight;
-      moments = λ is. (collected_moments told is over rests).rest.have;
+      moments = λ is. (collected_moments told is over rests).rest.tied;
       made = λ is.
           subst (MadeSoFar config new.view) (sym over.1.collects.journal)
           (made_collected config old.view new.view old.collector.journal.items over.1.collects.entry
@@ -236,7 +238,7 @@ stands_collected {unpaid} {told} {script} {config} {force} {shown} {later} {old}
 pub just_made : {unpaid : ℕ} {told : Bool} {script : Script} {config : Config} {force : Bool} {shown later : Shown}
     {old new : Row} → StandsBut unpaid told script config shown old → RestsSo told script config old
     → MakesCollection force shown later old new → told ≡ true
-    → JustMade script new.view.log new.states config new.collector.journal.items
+    → JustMade script (sight new.view) new.states config new.collector.journal.items
 just_made {told} stands rests made tells = collected_moments told tells (collected_over stands made) rests
 
 -- it was just made, also after a thread that dropped its registers
@@ -347,9 +349,9 @@ stands_full {unpaid} {told} {script} {config} force {later} {run} {full} {ended}
       v = w;
       states = states;
       table = Table_renewed stands.table over.renewed;
-      moments = λ tells. subst (λ (h : List Entry). HaveMoments script h states config ended.journal.items)
+      moments = λ tells. subst (λ (h : List Entry). SomeMoments script h states config ended.journal.items)
           (sym over.renewed.history)
-          (subst (HaveMoments script v.log states config) (sym halts.journal) (stands.moments tells));
+          (subst (SomeMoments script v.log states config) (sym halts.journal) (some_of (stands.moments tells)));
       journal = subst (IsJournalOf config) (sym halts.journal) stands.collector.journal;
       made = λ is_told. subst (λ (h : List Entry). MakesWithin config h ended.journal.items) (sym over.renewed.history)
           (subst (MakesWithin config v.log) (sym halts.journal) (run_within is_told stands));
@@ -374,7 +376,8 @@ stands_failed {unpaid} {told} {script} {config} later {run} stands some is halts
       v = v;
       states = states;
       table = stands.table;
-      moments = λ tells. subst (HaveMoments script v.log states config) (sym halts.journal) (stands.moments tells);
+      moments = λ tells.
+          subst (SomeMoments script v.log states config) (sym halts.journal) (some_of (stands.moments tells));
       journal = subst (IsJournalOf config) (sym halts.journal) stands.collector.journal;
       made = λ is_told. subst (MakesWithin config v.log) (sym halts.journal) (run_within is_told stands);
       unpaid = unpaid;

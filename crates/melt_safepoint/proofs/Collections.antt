@@ -20,6 +20,7 @@ use Rattle.melt_safepoint.specs.declared.thread.Mode.TheVariants.{Ended}
 use Rattle.melt_safepoint.specs.Passing.{CollectedFor}
 use Rattle.melt_safepoint.specs.Threads.{DueBy, RunsOrEnds, TakesReply, jobs_of, left, with_first}
 use Rattle.melt_safepoint.specs.Modes.{ForCollection, HadNoRoom, IsEnded, IsPaused, collections_for, jobs, lost, owes, owes_silent}
+use Rattle.melt_safepoint.specs.Cuts.{Moment}
 use Rattle.melt_safepoint.specs.Endings.{HaveMoments}
 use Rattle.melt_safepoint.specs.Losses.{losses}
 use Rattle.melt_safepoint.proofs.Losses.{losses_same, told_lost}
@@ -30,11 +31,12 @@ use Rattle.melt_safepoint.proofs.Threads.{later_set}
 pub moments_reply : {script : Script} {config : Config} (log : List Entry) (states : List ThreadState) (t : ℕ)
     {s : ThreadState} (after : ThreadState) (extra : List Reply) (journal : List Journal) → slice_get states t ≡ Some s
     → (IsEnded s.mode → ⊥) → after.replies.items ≡ s.replies.items ++ extra → (HadNoRoom after.mode → ⊥)
-    → HaveMoments script log states config journal → HaveMoments script log (set states t after) config journal
-moments_reply {script} {config} log states t {s} after extra journal at goes grown room moments =
-    subst (λ (h : List Entry). HaveMoments script h (set states t after) config journal) (append-nil log)
+    → {moments : List Moment} → HaveMoments script log states config journal moments
+    → HaveMoments script log (set states t after) config journal moments
+moments_reply {script} {config} log states t {s} after extra journal at goes grown room {moments} have =
+    subst (λ (h : List Entry). HaveMoments script h (set states t after) config journal moments) (append-nil log)
     (HaveMoments_later script log [] config journal (later_set states t s after extra at goes grown)
-    (none_set states t s after at room) moments)
+    (none_set states t s after at room) have)
 
 -- it only has another mode
 pub goes_on_mode : (s after : ThreadState) → RunsOrEnds s after → (mode : Mode) × (after ≡ record s { mode = mode })

@@ -1,6 +1,6 @@
 -- What is said of a collection after an epoch that ended is said of the view in which it ended.
 use Rattle.std.proofs.Common.{◌≡◌, ℕ, ◌≤◌, zero, suc, List, get_or, length, refl, sym, ◌∙◌, ap, subst, Bool}
-use Rattle.std.proofs.Common.{false, true}
+use Rattle.std.proofs.Common.{false, inl, inr, true}
 use Rattle.std.specs.Prelude.{Option, Some}
 use Rattle.melt_model.specs.Alive.{Alive, Held, words_of, CostsSum}
 use Rattle.melt_model.specs.declared.history.Entry.{Entry}
@@ -19,7 +19,7 @@ use Rattle.melt_core.specs.Epochs.{HasFinished}
 use Rattle.melt_core.specs.StaleBits.{BitIs, sight}
 use Rattle.melt_core.specs.Views.{View, held_values, maps_of, registers_in, value, values_of, InUse, IsQuiet}
 use Rattle.melt_core.specs.Views.{Standing}
-use Rattle.melt_safepoint.specs.Bits.{BitsAfter, BitsAreSet, TakesAway}
+use Rattle.melt_safepoint.specs.Bits.{BitsAfter, BitsAreSet, IsOnDisk, TakesAway}
 use Rattle.melt_safepoint.specs.Collections.{CollectedOver, CollectsCore, FullOver, Gathers, IsFullCore, AllMarked}
 use Rattle.melt_safepoint.specs.Collections.{MayCollect}
 use Rattle.melt_safepoint.specs.Shown.{Shown}
@@ -118,6 +118,10 @@ finished_takes phase v x w entry finished same takes = record {
       (subst (λ (f : ℕ → ℕ → Value). Alive v.log f n) (sym same) alive));
   none_new = λ n in_use.
       subst (λ (all : Option name_table.Names). InUse (maps_of all) n) finished.names (takes.none_new n in_use);
+  away = λ n there. elim (takes.away n there) [
+    | inl old ↦ inl (subst (λ (all : Option name_table.Names). IsOnDisk (maps_of all) n) finished.names old)
+    | inr taken ↦ inr taken
+  ];
 }
 
 module _ (v x : View) (finished : HasFinished v x)

@@ -1,5 +1,5 @@
 -- The end of a thread for which the heap has no room, even without what may leave it.
-use Rattle.std.proofs.Common.{◌≡◌, ℕ, ◌*◌, suc, true, false, List, length, refl, sym, ◌∙◌, ap, subst, arith, ◌<◌}
+use Rattle.std.proofs.Common.{◌≡◌, ℕ, ◌*◌, suc, true, false, List, [], ◌∷◌, ◌++◌, length, refl, sym, ◌∙◌, ap, subst, arith, ◌<◌}
 use Rattle.std.proofs.Math.ListN.{set}
 use Rattle.std.proofs.lemmas.Bool.{cases_eq}
 use Rattle.std.proofs.Common.{inl, inr}
@@ -12,6 +12,7 @@ use Rattle.melt_model.specs.declared.reports.ThreadEnd.TheVariants as end
 use Rattle.melt_trace.specs.Script.{Script}
 use Rattle.melt_scion.specs.Heaps.{OnDisk}
 use Rattle.melt_core.specs.Epochs.{HasDropped}
+use Rattle.melt_core.specs.StaleBits.{Sight, sight}
 use Rattle.melt_core.specs.Views.{View, call_of, value, IsQuiet}
 use Rattle.melt_core.specs.Views.{Standing}
 use Rattle.melt_safepoint.specs.declared.thread.Mode.{Mode}
@@ -26,8 +27,8 @@ use Rattle.melt_safepoint.specs.Threads.{jobs_of, left, replies_of}
 use Rattle.melt_safepoint.proofs.ToDo.{to_do_set}
 use Rattle.melt_safepoint.proofs.Threads.{get_set_same, get_set_other}
 use Rattle.melt_safepoint.specs.Cuts.{LacksRoom}
-use Rattle.melt_safepoint.specs.Cuts.{IsSafepoint}
-use Rattle.melt_safepoint.specs.Endings.{HaveMoments, now}
+use Rattle.melt_safepoint.specs.Cuts.{IsSafepoint, Moment, Occasion}
+use Rattle.melt_safepoint.specs.Endings.{TiedMoments, now}
 use Rattle.melt_safepoint.proofs.AtSafepoint.{safe_now}
 use Rattle.melt_safepoint.specs.Losses.{losses}
 use Rattle.melt_safepoint.specs.Modes.{lost, owes, ForCollection, jobs}
@@ -36,6 +37,7 @@ use Rattle.melt_safepoint.proofs.Counting.{Adds, adds_mode, counts_paid}
 use Rattle.melt_safepoint.proofs.Losses.{losses_same}
 use Rattle.melt_safepoint.proofs.Lacking.{lacking_open}
 use Rattle.melt_safepoint.proofs.InOrder.{moments_gone}
+use Rattle.melt_safepoint.proofs.Staying.{keeps_more}
 use Rattle.melt_safepoint.specs.Rows.{CollectorStands, LacksWords, NoRoom, RunStands, Row}
 use Rattle.melt_safepoint.specs.Rows.{StandsBut}
 use Rattle.melt_safepoint.specs.Collections.{MadeSoFar}
@@ -82,9 +84,29 @@ gone_lacks false {old} {t} held {need} {s} was lacks no_room holds is =
 -- and at which moment
 gone_safe : (told : Bool) {script : Script} {config : Config} {shown : Shown} {forced : ℕ} {old : Row} {t need : ℕ}
     → (lacks : LacksWords told script config shown forced old t need) → (tells : told ≡ true)
-    → IsSafepoint script old.view.log config (lacks.safe tells).have.moments (now old.view.log old.states)
+    → IsSafepoint script old.view.log config (lacks.safe tells).tied.moments (now old.view.log old.states)
 gone_safe true lacks tells = safe_now lacks.stands.table (lacks.safe tells)
 gone_safe false lacks tells = absurd (let wrong : false ≡ true = tells in cc)
+
+-- this is one moment more, at which all stale bits stay
+gone_tied : (told : Bool) {script : Script} {config : Config} {shown : Shown} {forced : ℕ} {old new : Row} {t : ℕ}
+    (held : ℕ) {need : ℕ} (e : EndsCall old new t held need)
+    → LacksWords told script config shown forced old t need → (told ≡ true → NoRoom config old.view need)
+    → told ≡ true
+    → TiedMoments script (sight old.view) (set old.states t (record e.s { mode = Ended (end.OutOfHeap held need) })) config
+    old.collector.journal.items
+gone_tied told {script} {config} {forced = forced} {old = old} {t = t} held {need} e lacks no_room tells =
+    let tied : TiedMoments script (sight old.view) old.states config old.collector.journal.items =
+    (lacks.safe tells).tied in
+    let m : Moment = record { cut = now old.view.log old.states; of = Occasion.no_room t held need } in
+    record {
+      moments = tied.moments ++ m ∷ [];
+      have = moments_gone old.collector.journal.items t held need e.was.at (lacking_open e.was) tied.have
+          (gone_lacks told held e.was lacks no_room e.holds tells) (gone_safe told lacks tells)
+          (counts_now script config (suc forced) old.view.log old.states (length old.collector.journal.items)
+          lacks.stands.table.count lacks.stands.table.due lacks.stands.counts);
+      bits = keeps_more script tied.moments m (sight old.view) (λ marks. marks) tied.bits;
+    }
 
 -- so the run stands after it
 pub gone_stands : {told : Bool} {script : Script} {config : Config} {shown : Shown} {forced : ℕ} {old new : Row}
@@ -97,7 +119,7 @@ gone_stands {told} {script} {config} {shown} {forced} {old} {new} {t} {held} {ne
     let mode : Mode = Ended (end.OutOfHeap held need) in
     let states : List ThreadState = old.states in
     let after : List ThreadState = set states t (record e.s { mode = mode }) in
-    let history : new.view.log ≡ old.view.log = ap (λ (x : View). x.log) e.drops.only in
+    let seen : sight new.view ≡ sight old.view = ap sight e.drops.only in
     let adds : Adds script config states after 0 1 =
     adds_mode script config states t 1 mode e.was.at stands.table.count (ap owes e.was.lacking)
     (omega (arith, ap over e.was.lacking)) in
@@ -113,16 +135,12 @@ gone_stands {told} {script} {config} {shown} {forced} {old} {new} {t} {held} {ne
       told_is = e.told ∙ stands.told_is;
       collector = subst (CollectorStands config shown) (sym e.collector) stands.collector;
       moments = λ tells.
-          subst (λ (c : Collector). HaveMoments script new.view.log new.states config c.journal.items)
+          subst (λ (c : Collector). TiedMoments script (sight new.view) new.states config c.journal.items)
           (sym e.collector)
-          (subst (λ (xs : List ThreadState). HaveMoments script new.view.log xs config old.collector.journal.items)
+          (subst (λ (xs : List ThreadState). TiedMoments script (sight new.view) xs config old.collector.journal.items)
           (sym e.states)
-          (subst (λ (h : List Entry). HaveMoments script h after config old.collector.journal.items) (sym history)
-          (moments_gone old.collector.journal.items t held need e.was.at (lacking_open e.was) (lacks.safe tells).have
-          (gone_lacks told held e.was lacks no_room e.holds tells)
-          (gone_safe told lacks tells)
-          (counts_now script config (suc forced) old.view.log states (length old.collector.journal.items)
-          stands.table.count stands.table.due stands.counts))));
+          (subst (λ (s : Sight). TiedMoments script s after config old.collector.journal.items) (sym seen)
+          (gone_tied told held e lacks no_room tells)));
       made = λ is.
           subst (λ (c : Collector). MadeSoFar config new.view c.journal.items) (sym e.collector)
           (made_dropped old.view new.view t e.drops (config.heap * length old.collector.journal.items)

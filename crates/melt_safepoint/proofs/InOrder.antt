@@ -16,18 +16,20 @@ use Rattle.melt_model.specs.declared.operations.Op.{Op}
 use Rattle.melt_model.specs.declared.operations.Op.TheVariants.{Collect}
 use Rattle.melt_model.specs.declared.operations.Reply.{Reply}
 use Rattle.melt_model.specs.declared.reports.Journal.{Journal}
+use Rattle.melt_model.specs.declared.reports.Phase.{Phase}
 use Rattle.melt_model.specs.declared.reports.ThreadEnd.TheVariants as end
 use Rattle.melt_trace.specs.Script.{Script, operations}
 use Rattle.melt_core.specs.Stages.{LooksAtStop}
+use Rattle.melt_core.specs.StaleBits.{Sight}
 use Rattle.melt_safepoint.specs.declared.thread.Mode.{Mode}
 use Rattle.melt_safepoint.specs.declared.thread.Mode.TheVariants.{Ended}
 use Rattle.melt_safepoint.specs.declared.thread.ThreadState.{ThreadState}
 use Rattle.melt_safepoint.specs.Asked.{collections}
 use Rattle.melt_safepoint.specs.Cuts.{AreMoments, CountsBy, Cut, IsAmong, IsCut, IsMoment, LacksRoom, Moment, NotAfter}
-use Rattle.melt_safepoint.specs.Cuts.{IsDue, IsSafepoint, Occasion}
+use Rattle.melt_safepoint.specs.Cuts.{IsDue, IsSafepoint, Occasion, TakesAt, history_at}
 use Rattle.melt_safepoint.specs.Cuts.{collection, collections_among, due_by, is_collection, no_room, replies_at}
 use Rattle.melt_safepoint.specs.Cuts.{replies_by}
-use Rattle.melt_safepoint.specs.Endings.{GoneIn, HaveMoments, gone_in, has_gone, now}
+use Rattle.melt_safepoint.specs.Endings.{GoneIn, HaveMoments, SomeMoments, TiedMoments, gone_in, has_gone, now}
 use Rattle.melt_safepoint.specs.Modes.{HadNoRoom, IsEnded}
 use Rattle.melt_safepoint.specs.Threads.{Later, replies_of}
 use Rattle.melt_safepoint.proofs.Asked.{asked_same, collections_same}
@@ -79,7 +81,7 @@ gone_then log states cut past = λ u s at over. gone_now log states u s at (past
 module _ (script : Script) (log : List Entry) (config : Config) (journal : List Journal) (made : ℕ) (cut : Cut) where
   is_cut_of : (replies : ℕ → List Reply) (of : Occasion) → IsMoment script log replies config journal made cut of
       → IsCut script log replies config cut
-  is_cut_of replies collection is = is.0
+  is_cut_of replies (collection phase taken) is = is.0
   is_cut_of replies (no_room t held_words need) is = is.is_cut.is
 
   moment_later : (more : List Entry) {states after : List ThreadState} → Later states after → GoneIn states cut
@@ -87,7 +89,7 @@ module _ (script : Script) (log : List Entry) (config : Config) (journal : List 
       → ((t held_words need : ℕ) → of ≡ no_room t held_words need → replies_of after t ≡ replies_of states t)
       → IsMoment script log (replies_of states) config journal made cut of
       → IsMoment script (log ++ more) (replies_of after) config journal made cut of
-  moment_later more later gone collection same is =
+  moment_later more later gone (collection phase taken) same is =
       (IsCut_later more later gone is.0, (is.1.0, is.1.1, IsCollectedAt_later more is.0.within is.1.2))
   moment_later more later gone (no_room t held_words need) same is =
       LacksRoom_later more later gone (same t held_words need refl) is
@@ -96,7 +98,7 @@ module _ (script : Script) (log : List Entry) (config : Config) (journal : List 
   moment_longer : (replies : ℕ → List Reply) (later : List Journal)
       → ((k : ℕ) (e : Journal) → slice_get journal k ≡ Some e → slice_get later k ≡ Some e) → (of : Occasion)
       → IsMoment script log replies config journal made cut of → IsMoment script log replies config later made cut of
-  moment_longer replies later longer collection is = (is.0, (is.1.0, longer made is.1.0 is.1.1, is.1.2))
+  moment_longer replies later longer (collection phase taken) is = (is.0, (is.1.0, longer made is.1.0 is.1.1, is.1.2))
   moment_longer replies later longer (no_room t held_words need) is = is
 
 -- what is counted at a moment, by other lists of the same replies
@@ -162,6 +164,23 @@ safe_later {script} log more {config} cut within safe t alive =
       | inr had ↦ inr had
     ]
 
+-- what a collection took away is told by a longer journal too
+takes_longer : {script : Script} {h : List Entry} {journal : List Journal} (later : List Journal)
+    {earlier : List Moment} {cut : Cut} {phase : Phase} {taken : List ℕ}
+    → ((k : ℕ) (e : Journal) → slice_get journal k ≡ Some e → slice_get later k ≡ Some e)
+    → TakesAt script h journal earlier cut phase taken → TakesAt script h later earlier cut phase taken
+takes_longer later {earlier} longer takes = record {
+  entry = takes.entry;
+  written = longer (collections_among earlier) takes.entry takes.written;
+  of_phase = takes.of_phase;
+  counts = takes.counts;
+  once = takes.once;
+  only_moves = takes.only_moves;
+  unheld = takes.unheld;
+  stale = takes.stale;
+  stays = takes.stays;
+}
+
 -- moments stay moments, where the threads that had no room then get no further reply
 are_later : {script : Script} {log : List Entry} (more : List Entry) {states after : List ThreadState} {config : Config}
     {journal : List Journal} {moments : List Moment} → Later states after
@@ -178,16 +197,30 @@ are_later {script} {log} more {states} {after} {config} {journal} {moments} late
   counts = λ i m at. counted_same script config (replies_of states) (replies_of after) m.cut
       (replies_later m.cut later (is_cut_of script log config journal (collections_among (take i moments)) m.cut
       (replies_of states) m.of (are.each i m at)).few) (are.counts i m at);
+  takes = λ i m phase taken at of.
+      subst (λ (h : List Entry). TakesAt script h journal (take i moments) m.cut phase taken)
+      (sym (take-append-le m.cut.entries log more (past i m at).entries)) (are.takes i m phase taken at of);
   order = are.order;
   gone = are.gone;
   all = are.all;
 }
 
+-- the moments of a run that are tied to its stale bits are moments of it
+pub some_of : {script : Script} {s : Sight} {states : List ThreadState} {config : Config} {journal : List Journal}
+    → TiedMoments script s states config journal → SomeMoments script s.log states config journal
+some_of tied = (tied.moments, tied.have)
+
+-- they are moments of a run of which other threads are told, where they are moments of it
+pub tied_by : {script : Script} {s : Sight} {states : List ThreadState} {config : Config} {journal : List Journal}
+    (after : List ThreadState) (tied : TiedMoments script s states config journal)
+    → HaveMoments script s.log after config journal tied.moments → TiedMoments script s after config journal
+tied_by after tied have = record { moments = tied.moments; have = have; bits = tied.bits }
+
 pub HaveMoments_later : (script : Script) (log more : List Entry) {states after : List ThreadState} (config : Config)
     (journal : List Journal) → Later states after → NoneForRoom states after
-    → HaveMoments script log states config journal → HaveMoments script (log ++ more) after config journal
+    → {moments : List Moment} → HaveMoments script log states config journal moments
+    → HaveMoments script (log ++ more) after config journal moments
 HaveMoments_later script log more {states} {after} config journal later room have = record {
-  moments = have.moments;
   are = are_later more later have.past
       (λ t held_words need among.
       let x = have.real t held_words need among in
@@ -201,18 +234,10 @@ HaveMoments_later script log more {states} {after} config journal later room hav
       (x.0, later.ended t x.0 x.1 (has_ended x.0.mode held_words need x.2), x.2);
 }
 
--- they are the same ones
-pub same_moments : (script : Script) (log more : List Entry) {states after : List ThreadState} (config : Config)
-    (journal : List Journal) (later : Later states after) (room : NoneForRoom states after)
-    (have : HaveMoments script log states config journal)
-    → (HaveMoments_later script log more config journal later room have).moments ≡ have.moments
-unfolding HaveMoments_later
-same_moments script log more config journal later room have = refl
-
 -- ---- one moment more
 
 -- the last element of a list, or one before it
-push_cases : (xs : List Moment) (m : Moment) (i : ℕ) (x : Moment) → slice_get (xs ++ m ∷ []) i ≡ Some x
+pub push_cases : (xs : List Moment) (m : Moment) (i : ℕ) (x : Moment) → slice_get (xs ++ m ∷ []) i ≡ Some x
     → ((i < length xs) × (slice_get xs i ≡ Some x)) ⊎ ((i ≡ length xs) × (m ≡ x))
 push_cases xs m i x at = elim (cases_lt i (length xs)) [
   | inl below ↦ inl (below, sym (slice_get-append_left xs (m ∷ []) i below) ∙ at)
@@ -240,11 +265,13 @@ pub moments_push : {script : Script} {log : List Entry} {replies : ℕ → List 
     → ((k : ℕ) (e : Journal) → slice_get journal k ≡ Some e → slice_get later k ≡ Some e)
     → IsMoment script log replies config later (length journal) m.cut m.of
     → IsSafepoint script log config moments m.cut → CountsBy script config replies m.cut (length journal)
+    → ((phase : Phase) (taken : List ℕ) → m.of ≡ collection phase taken
+    → TakesAt script (history_at log m.cut) later moments m.cut phase taken)
     → ((i : ℕ) (x : Moment) → slice_get moments i ≡ Some x → NotAfter x.cut m.cut)
     → ((t held_words need : ℕ) → IsAmong moments (no_room t held_words need) → m.cut.ended t ≡ true)
     → collections_among (moments ++ m ∷ []) ≡ length later
     → AreMoments script log replies config later (moments ++ m ∷ [])
-moments_push {script} {log} {replies} {config} journal later {moments} m are longer is safe counts past gone all =
+moments_push {script} {log} {replies} {config} journal later {moments} m are longer is safe counts takes past gone all =
     let before : (i : ℕ) → i < length moments
     → collections_among (take i moments) ≡ collections_among (take i (moments ++ m ∷ [])) =
     λ i below. ap collections_among (sym (take-append-le i moments (m ∷ []) (omega (arith, below)))) in
@@ -274,6 +301,16 @@ moments_push {script} {log} {replies} {config} journal later {moments} m are lon
         | inr new ↦ subst (λ (y : Moment). CountsBy script config replies y.cut
             (collections_among (take i (moments ++ m ∷ [])))) new.1
             (subst (λ (k : ℕ). CountsBy script config replies m.cut k) (here i new.0) counts)
+      ];
+      takes = λ i x phase taken at of. elim (push_cases moments m i x at) [
+        | inl old ↦ subst (λ (ms : List Moment). TakesAt script (history_at log x.cut) later ms x.cut phase taken)
+            (sym (take-append-le i moments (m ∷ []) (omega (arith, old.0))))
+            (takes_longer later longer (are.takes i x phase taken old.1 of))
+        | inr new ↦ subst (λ (y : Moment). TakesAt script (history_at log y.cut) later (take i (moments ++ m ∷ [])) y.cut
+            phase taken) new.1
+            (subst (λ (ms : List Moment). TakesAt script (history_at log m.cut) later ms m.cut phase taken)
+            (sym (ap (λ (k : ℕ). take k (moments ++ m ∷ [])) new.0 ∙ take-append_seam moments (m ∷ [])))
+            (takes phase taken (ap (λ (y : Moment). y.of) new.1 ∙ of)))
       ];
       order = λ i j x y less at there. elim (push_cases moments m j y there) [
         | inl old ↦ are.order i j x y less
@@ -308,13 +345,13 @@ among_cases moments m of (i, (x, at, is)) = elim (push_cases moments m i x at) [
 -- a run without a moment
 pub no_moments : (script : Script) (log : List Entry) (states : List ThreadState) (config : Config)
     → ((t : ℕ) (s : ThreadState) → slice_get states t ≡ Some s → HadNoRoom s.mode → ⊥)
-    → HaveMoments script log states config []
+    → HaveMoments script log states config [] []
 no_moments script log states config none = record {
-  moments = [];
   are = record {
     each = λ i m at. absurd (let wrong : slice_get [] i ≡ Some m = at in cc);
     safe = λ i m at. absurd (let wrong : slice_get [] i ≡ Some m = at in cc);
     counts = λ i m at. absurd (let wrong : slice_get [] i ≡ Some m = at in cc);
+    takes = λ i m phase taken at of. absurd (let wrong : slice_get [] i ≡ Some m = at in cc);
     order = λ i j m n less at there. absurd (let wrong : slice_get [] i ≡ Some m = at in cc);
     gone = λ i j m n t held_words need less at of there. absurd (let wrong : slice_get [] i ≡ Some m = at in cc);
     all = refl;
@@ -334,62 +371,65 @@ now_now log states = record {
 
 -- a thread that ended for want of room has ended
 gone_already : {script : Script} {log : List Entry} {states : List ThreadState} {config : Config}
-    {journal : List Journal} (have : HaveMoments script log states config journal) (t held_words need : ℕ)
-    → IsAmong have.moments (no_room t held_words need) → gone_in states t ≡ true
+    {journal : List Journal} {moments : List Moment} → HaveMoments script log states config journal moments
+    → (t held_words need : ℕ) → IsAmong moments (no_room t held_words need) → gone_in states t ≡ true
 gone_already {states} have t held_words need among =
     let x = have.real t held_words need among in
     gone_here states t x.0 x.1 ∙ ap has_gone x.2
 
+-- what one collection took away is what another took that is the same
+same_takes : {script : Script} {h : List Entry} {journal : List Journal} {earlier : List Moment} {cut : Cut}
+    {phase : Phase} {taken : List ℕ} (p : Phase) (xs : List ℕ) → collection phase taken ≡ collection p xs
+    → TakesAt script h journal earlier cut phase taken → TakesAt script h journal earlier cut p xs
+same_takes {script} {h} {journal} {earlier} {cut} {phase} {taken} p xs of takes =
+    let ps : phase ≡ p = let e : collection phase taken ≡ collection p xs = of in cc in
+    let ts : taken ≡ xs = let e : collection phase taken ≡ collection p xs = of in cc in
+    subst (λ (q : Phase). TakesAt script h journal earlier cut q xs) ps
+    (subst (λ (ys : List ℕ). TakesAt script h journal earlier cut phase ys) ts takes)
+
 -- a collection more
 pub moments_collected : {script : Script} {log : List Entry} {states : List ThreadState} {config : Config}
-    (journal : List Journal) (entry : Journal) (have : HaveMoments script log states config journal)
-    → IsMoment script log (replies_of states) config (journal ++ entry ∷ []) (length journal) (now log states) collection
-    → IsSafepoint script log config have.moments (now log states)
+    (journal : List Journal) (entry : Journal) {phase : Phase} {taken : List ℕ} {moments : List Moment}
+    → HaveMoments script log states config journal moments
+    → IsMoment script log (replies_of states) config (journal ++ entry ∷ []) (length journal) (now log states)
+    (collection phase taken)
+    → IsSafepoint script log config moments (now log states)
     → CountsBy script config (replies_of states) (now log states) (length journal)
+    → TakesAt script (history_at log (now log states)) (journal ++ entry ∷ []) moments (now log states) phase taken
     → HaveMoments script log states config (journal ++ entry ∷ [])
-moments_collected {script} {log} {states} {config} journal entry have is safe counts =
-    let m : Moment = record { cut = now log states; of = collection } in
-    let all : collections_among (have.moments ++ m ∷ []) ≡ length (journal ++ entry ∷ []) =
-    omega (arith, count_push have.moments m, have.are.all, length-append journal (entry ∷ [])) in
+    (moments ++ record { cut = now log states; of = collection phase taken } ∷ [])
+moments_collected {script} {log} {states} {config} journal entry {phase} {taken} {moments} have is safe counts takes =
+    let m : Moment = record { cut = now log states; of = collection phase taken } in
+    let all : collections_among (moments ++ m ∷ []) ≡ length (journal ++ entry ∷ []) =
+    omega (arith, count_push moments m, have.are.all, length-append journal (entry ∷ [])) in
     record {
-      moments = have.moments ++ m ∷ [];
       are = moments_push journal (journal ++ entry ∷ []) m have.are
           (λ k e at. slice_get-append_left journal (entry ∷ []) k (slice_get_within journal k e at) ∙ at) is safe counts
-          have.past (gone_already have) all;
-      past = λ i x at. elim (push_cases have.moments m i x at) [
+          (λ p xs of. same_takes p xs of takes) have.past (gone_already have) all;
+      past = λ i x at. elim (push_cases moments m i x at) [
         | inl old ↦ have.past i x old.1
         | inr new ↦ subst (λ (y : Moment). NotAfter y.cut (now log states)) new.1 (now_now log states)
       ];
       gone = λ t held_words need s at over.
-          among_push have.moments m (no_room t held_words need) (have.gone t held_words need s at over);
+          among_push moments m (no_room t held_words need) (have.gone t held_words need s at over);
       real = λ t held_words need among.
-          elim (among_cases have.moments m (no_room t held_words need) among) [
+          elim (among_cases moments m (no_room t held_words need) among) [
             | inl old ↦ have.real t held_words need old
-            | inr new ↦ absurd (let wrong : collection ≡ no_room t held_words need = new in
+            | inr new ↦ absurd (let wrong : collection phase taken ≡ no_room t held_words need = new in
                 let e : true ≡ false = ap is_collection wrong in cc)
           ];
     }
 
--- it is the last of them
-pub last_moment : {script : Script} {log : List Entry} {states : List ThreadState} {config : Config}
-    (journal : List Journal) (entry : Journal) (have : HaveMoments script log states config journal)
-    (is : IsMoment script log (replies_of states) config (journal ++ entry ∷ []) (length journal) (now log states)
-    collection) (safe : IsSafepoint script log config have.moments (now log states))
-    (counts : CountsBy script config (replies_of states) (now log states) (length journal))
-    → (moments_collected journal entry have is safe counts).moments
-    ≡ have.moments ++ record { cut = now log states; of = collection } ∷ []
-unfolding moments_collected
-last_moment journal entry have is safe counts = refl
-
 -- the end of a thread more, for want of room
 pub moments_gone : {script : Script} {log : List Entry} {states : List ThreadState} {config : Config}
     (journal : List Journal) (t held_words need : ℕ) {s : ThreadState} → slice_get states t ≡ Some s
-    → (IsEnded s.mode → ⊥) → (have : HaveMoments script log states config journal)
+    → (IsEnded s.mode → ⊥) → {moments : List Moment} → HaveMoments script log states config journal moments
     → LacksRoom script log (replies_of states) config (now log states) t held_words need
-    → IsSafepoint script log config have.moments (now log states)
+    → IsSafepoint script log config moments (now log states)
     → CountsBy script config (replies_of states) (now log states) (length journal)
     → HaveMoments script log (set states t (record s { mode = Ended (end.OutOfHeap held_words need) })) config journal
-moments_gone {script} {log} {states} {config} journal t held_words need {s} at goes have lacks safe counts =
+    (moments ++ record { cut = now log states; of = no_room t held_words need } ∷ [])
+moments_gone {script} {log} {states} {config} journal t held_words need {s} at goes {moments} have lacks safe counts =
     let ended : ThreadState = record s { mode = Ended (end.OutOfHeap held_words need) } in
     let after : List ThreadState = set states t ended in
     let m : Moment = record { cut = now log states; of = no_room t held_words need } in
@@ -397,22 +437,23 @@ moments_gone {script} {log} {states} {config} journal t held_words need {s} at g
     later_set states t s ended [] at goes (sym (append-nil s.replies.items)) in
     let on : NotAfter (now log states) (now log after) =
     subst (λ (h : List Entry). NotAfter (now log states) (now h after)) (append-nil log) (now_later log [] later) in
-    let past : (i : ℕ) (x : Moment) → slice_get (have.moments ++ m ∷ []) i ≡ Some x → NotAfter x.cut (now log states) =
-    λ i x there. elim (push_cases have.moments m i x there) [
+    let past : (i : ℕ) (x : Moment) → slice_get (moments ++ m ∷ []) i ≡ Some x → NotAfter x.cut (now log states) =
+    λ i x there. elim (push_cases moments m i x there) [
       | inl old ↦ have.past i x old.1
       | inr new ↦ subst (λ (y : Moment). NotAfter y.cut (now log states)) new.1 (now_now log states)
     ] in
-    let are : AreMoments script log (replies_of states) config journal (have.moments ++ m ∷ []) =
-    moments_push journal journal m have.are (λ k e there. there) lacks safe counts have.past (gone_already have)
-    (omega (arith, count_push have.moments m, have.are.all)) in
+    let are : AreMoments script log (replies_of states) config journal (moments ++ m ∷ []) =
+    moments_push journal journal m have.are (λ k e there. there) lacks safe counts
+    (λ p xs of. absurd (let wrong : no_room t held_words need ≡ collection p xs = of in
+    let e : false ≡ true = ap is_collection wrong in cc)) have.past (gone_already have)
+    (omega (arith, count_push moments m, have.are.all)) in
     let replies : (u : ℕ) → replies_of after u ≡ replies_of states u = λ u. elim (cases_eq u t) [
       | inl same ↦ subst (λ (k : ℕ). replies_of after k ≡ replies_of states k) (sym same)
           (replies_same states t s ended at ∙ sym (replies_here states t s at))
       | inr other ↦ replies_other states t u ended other
     ] in
     record {
-      moments = have.moments ++ m ∷ [];
-      are = subst (λ (h : List Entry). AreMoments script h (replies_of after) config journal (have.moments ++ m ∷ []))
+      are = subst (λ (h : List Entry). AreMoments script h (replies_of after) config journal (moments ++ m ∷ []))
           (append-nil log) (are_later [] later past (λ u a b among. replies u) are);
       past = λ i x there. not_after_trans (past i x there) on;
       gone = λ u a b x there is. elim (cases_eq u t) [
@@ -422,11 +463,11 @@ moments_gone {script} {log} {states} {config} journal t held_words need {s} at g
             let mode : Ended (end.OutOfHeap held_words need) ≡ Ended (end.OutOfHeap a b) =
             ap (λ (y : ThreadState). y.mode) it ∙ is in
             let of : no_room t held_words need ≡ no_room u a b = rw same (cc) in
-            (length have.moments, (m, slice_get-append_seam have.moments m [], of))
-        | inr other ↦ among_push have.moments m (no_room u a b)
+            (length moments, (m, slice_get-append_seam moments m [], of))
+        | inr other ↦ among_push moments m (no_room u a b)
             (have.gone u a b x (sym (get_set_other states t u ended other) ∙ there) is)
       ];
-      real = λ u a b among. elim (among_cases have.moments m (no_room u a b) among) [
+      real = λ u a b among. elim (among_cases moments m (no_room u a b) among) [
         | inl old ↦
             let x = have.real u a b old in
             (x.0, later.ended u x.0 x.1 (has_ended x.0.mode a b x.2), x.2)

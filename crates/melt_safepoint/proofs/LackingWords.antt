@@ -8,6 +8,7 @@ use Rattle.melt_model.specs.declared.operations.Op.{Op}
 use Rattle.melt_model.specs.declared.reports.Journal.{Journal}
 use Rattle.melt_model.proofs.Sums.{CostsSum-one}
 use Rattle.melt_trace.specs.Script.{Script}
+use Rattle.melt_core.specs.StaleBits.{BitsTold, sight}
 use Rattle.melt_core.specs.Views.{View, value}
 use Rattle.melt_safepoint.specs.Collections.{AllMarked, NoneForwarded}
 use Rattle.melt_safepoint.specs.Journals.{IsTight, before}
@@ -19,7 +20,7 @@ use Rattle.melt_safepoint.specs.Shown.{Shown}
 use Rattle.melt_safepoint.specs.Threads.{OweAfterCollects}
 use Rattle.melt_safepoint.specs.declared.collector.Collector.{Collector}
 use Rattle.melt_safepoint.specs.declared.thread.ThreadState.{ThreadState}
-use Rattle.melt_safepoint.proofs.AtSafepoint.{safe_same}
+use Rattle.melt_safepoint.proofs.AtSafepoint.{safe_still}
 use Rattle.melt_safepoint.proofs.Cuts.{held_words_same, needs_same}
 use Rattle.melt_safepoint.proofs.Journals.{before_end}
 
@@ -59,6 +60,7 @@ pub record LeavesLacking (told : Bool) (config : Config) (old new : Row) (t need
   pub small : need ≤ 126
   pub none_forwarded : NoneForwarded new.view
   pub marked : told ≡ true → AllMarked old.view → AllMarked new.view
+  pub bits : told ≡ true → BitsTold (sight old.view) (sight new.view)
   pub op : Op
   pub next : (s : ThreadState) → slice_get old.states t ≡ Some s → s.op ≡ Some op
   pub needs : told ≡ true → NeedsWords old.view.log (value old.view) t op need
@@ -73,7 +75,7 @@ lacks_words {told} {script} {config} {shown} {forced} {old} {new} {t} {need} awa
     let w : View = new.view in
     record {
       stands = stands;
-      safe = safe_same old new is.history is.states is.collector awaits.safe;
+      safe = safe_still old new stands.table.stands is.history is.states is.collector is.bits awaits.safe;
       few = awaits.few;
       owed = subst (OweAfterCollects script) (sym is.states) awaits.owed;
       own = subst NoneOwn (sym is.states) awaits.own;

@@ -49,3 +49,4 @@ pub mod TwoMoves
 pub mod Untold
 pub mod WordsMade
 pub mod Writes
+pub mod Staying

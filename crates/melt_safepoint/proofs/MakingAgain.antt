@@ -19,6 +19,7 @@ use Rattle.melt_safepoint.specs.declared.thread.ThreadState.{ThreadState}
 use Rattle.melt_safepoint.specs.declared.thread.Mode.TheVariants.{Running}
 use Rattle.melt_safepoint.specs.Modes.{lost, owes_silent}
 use Rattle.melt_safepoint.specs.Threads.{NoneWaits, AllWait, OweAfterCollects, with_first}
+use Rattle.melt_safepoint.specs.Cuts.{Moment}
 use Rattle.melt_safepoint.specs.Endings.{HaveMoments}
 use Rattle.melt_safepoint.specs.Losses.{losses}
 use Rattle.melt_safepoint.specs.Passing.{CollectedFor, CollectedAll, Resumed, NoneOwn}
@@ -41,7 +42,8 @@ pub record AgainBelow (states after : List ThreadState) (n : ℕ) : Type 0 where
   pub table : (told : Bool) (script : Script) (config : Config) (disk : OnDisk) (v : View)
       → TableStands told script config disk v states → IsQuiet v → TableStands told script config disk v after
   pub moments : (script : Script) (log : List Entry) (config : Config) (journal : List Journal)
-      → HaveMoments script log states config journal → HaveMoments script log after config journal
+      → (moments : List Moment) → HaveMoments script log states config journal moments
+      → HaveMoments script log after config journal moments
   pub collected : (script : Script) (config : Config) → length states ≡ length script.programs
       → Adds script config states after 0 0
   pub lost : losses after ≡ losses states
@@ -76,13 +78,15 @@ again_more states after n s x so_far at made = record {
         | inr not ↦ subst (TableStands told script config disk v)
             (sym (ap (set after n) (made.same not) ∙ set_got after n s at)) before
       ];
-  moments = λ script log config journal have.
-      let before : HaveMoments script log after config journal = so_far.moments script log config journal have in
+  moments = λ script log config journal moments have.
+      let before : HaveMoments script log after config journal moments =
+      so_far.moments script log config journal moments have in
       elim (calls_again s.mode) [
         | inl again ↦
-            subst (λ (z : ThreadState). HaveMoments script log (set after n z) config journal) (sym (made.again again))
+            subst (λ (z : ThreadState). HaveMoments script log (set after n z) config journal moments)
+            (sym (made.again again))
             (moments_mode config log after n Running journal at (again_open s.mode again) (λ none. none) before)
-        | inr not ↦ subst (λ (xs : List ThreadState). HaveMoments script log xs config journal)
+        | inr not ↦ subst (λ (xs : List ThreadState). HaveMoments script log xs config journal moments)
             (sym (ap (set after n) (made.same not) ∙ set_got after n s at)) before
       ];
   collected = λ script config count.

@@ -21,7 +21,7 @@ use Rattle.melt_safepoint.specs.declared.thread.ThreadState.{ThreadState}
 use Rattle.melt_safepoint.specs.declared.thread.Mode.{Mode}
 use Rattle.melt_safepoint.specs.declared.thread.Mode.TheVariants.{Running, Due, Silent, Collecting, Asked, Lacking}
 use Rattle.melt_safepoint.specs.declared.thread.Mode.TheVariants.{Ended}
-use Rattle.melt_safepoint.specs.Cuts.{IsDue}
+use Rattle.melt_safepoint.specs.Cuts.{IsDue, Moment}
 use Rattle.melt_safepoint.specs.Run.{LoadsNext}
 use Rattle.melt_safepoint.specs.Threads.{DueBy, with_first, replies_of, Later, TakesReply}
 use Rattle.melt_safepoint.specs.Modes.{CallsAgain, HadNoRoom, owes_silent, owes, mode_for, MayGo, IsEnded, FitsMode, Waits, words_lacked_by}
@@ -158,11 +158,11 @@ later_mode states t s mode at goes =
 -- and the moments of collections are those that they were
 pub moments_mode : {script : Script} (config : Config) (log : List Entry) (states : List ThreadState) (t : ℕ)
     {s : ThreadState} (mode : Mode) (journal : List Journal) → slice_get states t ≡ Some s → (IsEnded s.mode → ⊥)
-    → (HadNoRoom mode → ⊥) → HaveMoments script log states config journal
-    → HaveMoments script log (set states t (record s { mode = mode })) config journal
-moments_mode {script} config log states t {s} mode journal at goes room have =
+    → (HadNoRoom mode → ⊥) → {moments : List Moment} → HaveMoments script log states config journal moments
+    → HaveMoments script log (set states t (record s { mode = mode })) config journal moments
+moments_mode {script} config log states t {s} mode journal at goes room {moments} have =
     let after : List ThreadState = set states t (record s { mode = mode }) in
-    subst (λ (h : List Entry). HaveMoments script h after config journal) (append-nil log)
+    subst (λ (h : List Entry). HaveMoments script h after config journal moments) (append-nil log)
     (HaveMoments_later script log [] config journal (later_mode states t s mode at goes)
     (none_set states t s (record s { mode = mode }) at room) have)
 

@@ -21,6 +21,7 @@ use Rattle.melt_model.specs.declared.operations.Op.{Op}
 use Rattle.melt_model.specs.declared.operations.Op.TheVariants as op
 use Rattle.melt_model.specs.declared.operations.Reply.{Reply}
 use Rattle.melt_model.specs.declared.reports.Journal.{Journal}
+use Rattle.melt_model.specs.declared.reports.Phase.{Phase}
 use Rattle.melt_model.proofs.Histories.{slice_get-append_seam}
 use Rattle.melt_model.proofs.Transcripts.{Transcript_so_far, registers_so_far, one_reply_each}
 use Rattle.melt_trace.specs.Script.{Script, operations}
@@ -175,7 +176,7 @@ nothing_past v u r past =
     (omega (arith, length-map v.held (λ (x : Registers). x.regs))))
 
 -- the registers of all threads by the history are those that they have
-registers_now : {script : Script} {config : Config} {disk : OnDisk} {v : View} {states : List ThreadState} (u r : ℕ)
+pub registers_now : {script : Script} {config : Config} {disk : OnDisk} {v : View} {states : List ThreadState} (u r : ℕ)
     → TableStands true script config disk v states → registers_by script (now v.log states) v.log u r ≡ value v u r
 registers_now {script} {v} {states} u r table =
     let at : Bool → List Reply → Value =
@@ -192,10 +193,11 @@ registers_now {script} {v} {states} u r table =
 
 -- now is the moment of a collection that finds the words of the view
 pub moment_now : (script : Script) (config : Config) (disk : OnDisk) (v : View) (states : List ThreadState)
-    (journal : List Journal) (entry : Journal) → TableStands true script config disk v states → Gathers v entry
+    (journal : List Journal) (entry : Journal) (phase : Phase) (taken : List ℕ)
+    → TableStands true script config disk v states → Gathers v entry
     → IsMoment script v.log (replies_of states) config (journal ++ entry ∷ []) (length journal) (now v.log states)
-    collection
-moment_now script config disk v states journal entry table gathers =
+    (collection phase taken)
+moment_now script config disk v states journal entry phase taken table gathers =
     let cut : Cut = now v.log states in
     let same : (u r : ℕ) → value v u r ≡ registers_by script cut v.log u r =
     λ u r. sym (registers_now u r table) in

@@ -63,7 +63,7 @@ LacksRoom_same {script} {log} {a} b {config} {cut} {t} same lacks = record {
 module _ (script : Script) (log : List Entry) (config : Config) (journal : List Journal) (made : ℕ) (cut : Cut) where
   moment_same : (a b : ℕ → List Reply) → ((t : ℕ) → a t ≡ b t) → (of : Occasion)
       → IsMoment script log a config journal made cut of → IsMoment script log b config journal made cut of
-  moment_same a b same collection is = (IsCut_same script log a b config cut same is.0, is.1)
+  moment_same a b same (collection phase taken) is = (IsCut_same script log a b config cut same is.0, is.1)
   moment_same a b same (no_room t held_words need) is = LacksRoom_same b same is
 
 pub are_same : {script : Script} {log : List Entry} {a : ℕ → List Reply} (b : ℕ → List Reply) {config : Config}
@@ -75,6 +75,7 @@ are_same {script} {log} {a} b {config} {journal} {moments} same are = record {
   safe = are.safe;
   counts = λ i m at. counted_same script config a b m.cut (λ t. ap (take (m.cut.replies t)) (same t))
       (are.counts i m at);
+  takes = are.takes;
   order = are.order;
   gone = are.gone;
   all = are.all;

@@ -31,7 +31,7 @@ use Rattle.melt_safepoint.specs.Run.{is_halted, replies_in, halted_in, LoadsNext
 use Rattle.melt_safepoint.specs.Asked.{collects, collections}
 use Rattle.melt_safepoint.specs.Run.{replies_told, IsStepReport}
 use Rattle.melt_safepoint.specs.Cuts.{AreMoments, IsAmong, Moment, no_room}
-use Rattle.melt_safepoint.specs.Endings.{EndsSo, HaveMoments}
+use Rattle.melt_safepoint.specs.Endings.{EndsSo, SomeMoments}
 use Rattle.melt_safepoint.specs.Made.{MakesWithin}
 use Rattle.melt_safepoint.specs.Shown.{Shown}
 use Rattle.melt_safepoint.proofs.Cuts.{replies_here, replies_past}
@@ -177,26 +177,26 @@ history_of {script} {config} {disk} {v} {states} {ended} {report} table reports 
 module _ (script : Script) (log : List Entry) (states : List ThreadState) (config : Config) (journal : List Journal)
   where
     -- the moments of a run that is told; of any other there are none
-    abbrev the_moments : (told : Bool) → (told ≡ true → HaveMoments script log states config journal) → List Moment
-    the_moments true have = (have refl).moments
+    abbrev the_moments : (told : Bool) → (told ≡ true → SomeMoments script log states config journal) → List Moment
+    the_moments true have = (have refl).0
     the_moments false have = []
 
-    are_the : (told : Bool) (have : told ≡ true → HaveMoments script log states config journal) → told ≡ true
+    are_the : (told : Bool) (have : told ≡ true → SomeMoments script log states config journal) → told ≡ true
         → AreMoments script log (replies_of states) config journal (the_moments told have)
-    are_the true have is = (have refl).are
+    are_the true have is = (have refl).1.are
     are_the false have is = absurd (let wrong : false ≡ true = is in cc)
 
-    gone_the : (told : Bool) (have : told ≡ true → HaveMoments script log states config journal) → told ≡ true
+    gone_the : (told : Bool) (have : told ≡ true → SomeMoments script log states config journal) → told ≡ true
         → (t held_words need : ℕ) (s : ThreadState) → slice_get states t ≡ Some s
         → s.mode ≡ mode.Ended (end.OutOfHeap held_words need)
         → IsAmong (the_moments told have) (no_room t held_words need)
-    gone_the true have is = (have refl).gone
+    gone_the true have is = (have refl).1.gone
     gone_the false have is = absurd (let wrong : false ≡ true = is in cc)
 
-    real_the : (told : Bool) (have : told ≡ true → HaveMoments script log states config journal) → told ≡ true
+    real_the : (told : Bool) (have : told ≡ true → SomeMoments script log states config journal) → told ≡ true
         → (t held_words need : ℕ) → IsAmong (the_moments told have) (no_room t held_words need)
         → (s : ThreadState) × (slice_get states t ≡ Some s) × (s.mode ≡ mode.Ended (end.OutOfHeap held_words need))
-    real_the true have is = (have refl).real
+    real_the true have is = (have refl).1.real
     real_the false have is = absurd (let wrong : false ≡ true = is in cc)
 
 -- they are those of the report

@@ -36,7 +36,7 @@ use Rattle.melt_core.specs.Advances.{KeepsOthers, Pauses}
 use Rattle.melt_safepoint.specs.declared.thread.ThreadState.{ThreadState}
 use Rattle.melt_safepoint.specs.declared.thread.Mode.{Mode}
 use Rattle.melt_safepoint.specs.declared.thread.Mode.TheVariants.{Running, Due, Asked, Lacking}
-use Rattle.melt_safepoint.specs.Cuts.{IsDue}
+use Rattle.melt_safepoint.specs.Cuts.{IsDue, Moment}
 use Rattle.melt_safepoint.specs.Run.{LoadsNext}
 use Rattle.melt_safepoint.specs.Threads.{DueBy, with_first, left, replies_of, to_reply, Later, TakesReply, AllWait}
 use Rattle.melt_safepoint.specs.Threads.{most_forwards}
@@ -209,10 +209,12 @@ Table_moves {told} {script} {config} {v} {w} {states} {t} {s} {after} table at r
 pub moments_moves : {told : Bool} {script : Script} {config : Config} {v w : View} {states : List ThreadState} {t : ℕ}
     {s after : ThreadState} (journal : List Journal) → slice_get states t ≡ Some s → (IsEnded s.mode → ⊥)
     → ThreadEvent told script config v w states t s after → (HadNoRoom after.mode → ⊥)
-    → HaveMoments script v.log states config journal → HaveMoments script w.log (set states t after) config journal
-moments_moves {script} {config} {v} {states} {t} {s} {after} journal at runs m room have =
+    → {moments : List Moment} → HaveMoments script v.log states config journal moments
+    → HaveMoments script w.log (set states t after) config journal moments
+moments_moves {script} {config} {v} {states} {t} {s} {after} journal at runs m room {moments} have =
     let more = with_more v.log t m.act in
-    subst (λ (h : List Entry). HaveMoments script h (set states t after) config journal) (sym (m.grown ∙ more.1))
+    subst (λ (h : List Entry). HaveMoments script h (set states t after) config journal moments)
+    (sym (m.grown ∙ more.1))
     (HaveMoments_later script v.log more.0 config journal (later_set states t s after m.extra at runs m.replies)
     (none_set states t s after at room) have)
 
@@ -608,10 +610,22 @@ step_room {s} {after} runs step none =
 pub moments_step : {told : Bool} {script : Script} {config : Config} {disk : OnDisk} {v w : View}
     {states : List ThreadState} {t : ℕ} {s after : ThreadState} (journal : List Journal) → disk.end ≤ config.disk
     → TableStands told script config disk v states → slice_get states t ≡ Some s → (IsEnded s.mode → ⊥)
-    → ThreadStep told disk v w t s after → DueBy config.every s after → HaveMoments script v.log states config journal
-    → HaveMoments script w.log (set states t after) config journal
+    → ThreadStep told disk v w t s after → DueBy config.every s after → {moments : List Moment}
+    → HaveMoments script v.log states config journal moments
+    → HaveMoments script w.log (set states t after) config journal moments
 moments_step journal within table at runs step due have =
     moments_moves journal at runs (step_moves within table at runs step due) (step_room runs step) have
+
+-- and the history has grown
+pub log_step : {told : Bool} {script : Script} {config : Config} {disk : OnDisk} {v w : View}
+    {states : List ThreadState} {t : ℕ} {s after : ThreadState} → disk.end ≤ config.disk
+    → TableStands told script config disk v states → slice_get states t ≡ Some s → (IsEnded s.mode → ⊥)
+    → ThreadStep told disk v w t s after → DueBy config.every s after
+    → (more : List Entry) × (w.log ≡ v.log ++ more)
+log_step {v = v} {t = t} within table at runs step due =
+    let m = step_moves within table at runs step due in
+    let more = with_more v.log t m.act in
+    (more.0, m.grown ∙ more.1)
 
 -- what an event needs
 pub table_ready : {script : Script} {config : Config} {disk : OnDisk} {v : View} {states : List ThreadState} (t : ℕ)

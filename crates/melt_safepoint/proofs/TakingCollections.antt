@@ -14,6 +14,7 @@ use Rattle.melt_model.specs.declared.reports.Journal.{Journal}
 use Rattle.melt_model.specs.declared.reports.ThreadEnd.TheVariants as end
 use Rattle.melt_trace.specs.Script.{Script}
 use Rattle.melt_scion.specs.Heaps.{OnDisk}
+use Rattle.melt_core.specs.StaleBits.{Sight, sight}
 use Rattle.melt_core.specs.Views.{View, values_of, call_of, IsQuiet, Standing}
 use Rattle.melt_core.specs.Epochs.{HasDropped}
 use Rattle.melt_safepoint.specs.declared.thread.ThreadState.{ThreadState}
@@ -24,9 +25,10 @@ use Rattle.melt_safepoint.specs.Journals.{IsTight, Planned}
 use Rattle.melt_safepoint.specs.Shown.{Shown}
 use Rattle.melt_safepoint.specs.Threads.{DueBy, RunsOrEnds, TakesReply, with_first}
 use Rattle.melt_safepoint.specs.Modes.{FitsMode, ForCollection, IsEnded, MayGo, owes, owes_silent}
-use Rattle.melt_safepoint.specs.Endings.{HaveMoments, RestMoments}
+use Rattle.melt_safepoint.specs.Endings.{RestMoments, TiedMoments}
 use Rattle.melt_safepoint.proofs.AtSafepoint.{JustMade, rests_replied, rests_silent}
 use Rattle.melt_safepoint.proofs.Counting.{Adds, Spare, adds_silent, counts_taken, open_over}
+use Rattle.melt_safepoint.proofs.InOrder.{tied_by}
 use Rattle.melt_safepoint.proofs.Journals.{may_owe}
 use Rattle.melt_safepoint.proofs.Modes.{moments_mode}
 use Rattle.melt_safepoint.proofs.Moments.{next_op}
@@ -52,6 +54,7 @@ pub record SameEpoch (v w : View) : Type 0 where
   pub log : w.log ≡ v.log
   pub names : w.names ≡ v.names
   pub calls : w.calls ≡ v.calls
+  pub seen : sight w ≡ sight v
 
 -- so it is where a thread drops its registers
 pub drops_same : (v w : View) (t : ℕ) (mode : Mode) → DropsIfEnded v w t mode → SameEpoch v w
@@ -62,9 +65,10 @@ drops_same v w t mode drops = elim (drop_cases v w t mode drops) [
     log = ap (λ (x : View). x.log) gone.1.only;
     names = ap (λ (x : View). x.names) gone.1.only;
     calls = ap (λ (x : View). x.calls) gone.1.only;
+    seen = ap sight gone.1.only;
   }
   | inr goes ↦ subst (SameEpoch v) (sym goes.1)
-      (record { free = refl; forward = refl; log = refl; names = refl; calls = refl })
+      (record { free = refl; forward = refl; log = refl; names = refl; calls = refl; seen = refl })
 ]
 
 -- no call is in flight in it
@@ -147,7 +151,7 @@ HasSpare script config run = Spare script config run.states (length run.collecto
 set_stands : {told : Bool} {script : Script} {config : Config} {shown : Shown} {mid new : Row} {t : ℕ}
     {after : ThreadState} → (stands : StandsBut 1 told script config shown mid) → SetsState mid new t after
     → TableStands told script config stands.disk new.view (set mid.states t after)
-    → (told ≡ true → HaveMoments script mid.view.log (set mid.states t after) config mid.collector.journal.items)
+    → (told ≡ true → TiedMoments script (sight mid.view) (set mid.states t after) config mid.collector.journal.items)
     → HasSpare script config mid → Adds script config mid.states (set mid.states t after) 1 0
     → RunStands told script config shown new
 set_stands {told} {script} {config} {shown} {mid} {new} {t} {after} stands sets table moments spare adds =
@@ -167,9 +171,9 @@ set_stands {told} {script} {config} {shown} {mid} {new} {t} {after} stands sets 
       told_is = sets.told ∙ stands.told_is;
       collector = subst (CollectorStands config shown) (sym sets.collector) stands.collector;
       moments = λ is.
-          subst (λ (xs : List ThreadState). HaveMoments script new.view.log xs config journal) (sym sets.states)
-          (subst (λ (h : List Entry). HaveMoments script h states config journal) (sym sets.epoch.log)
-          (subst (HaveMoments script mid.view.log states config) same (moments is)));
+          subst (λ (xs : List ThreadState). TiedMoments script (sight new.view) xs config journal) (sym sets.states)
+          (subst (λ (s : Sight). TiedMoments script s states config journal) (sym sets.epoch.seen)
+          (subst (TiedMoments script (sight mid.view) states config) same (moments is)));
       made = λ is.
           subst (MadeSoFar config new.view) same
           (made_same (config.heap * length mid.collector.journal.items) mid.view new.view
@@ -199,8 +203,9 @@ Run_answered {told} {script} {config} {mid} {new} {t} {s} {after} stands spare a
     let within : stands.disk.end ≤ config.disk =
     subst (λ (n : ℕ). n ≤ config.disk) (sym stands.under.ends) stands.collector.within in
     set_stands stands sets (Table_step within stands.table at goes step by)
-    (λ is. moments_reply v.log states t after (reply.Done ∷ []) mid.collector.journal.items at goes takes.replies
-    (told_room takes) (stands.moments is)) spare (record { all = adds.all; asked = adds.asked; pays = omega (arith, adds.pays) })
+    (λ is. tied_by (set states t after) (stands.moments is)
+    (moments_reply v.log states t after (reply.Done ∷ []) mid.collector.journal.items at goes takes.replies
+    (told_room takes) (stands.moments is).have)) spare (record { all = adds.all; asked = adds.asked; pays = omega (arith, adds.pays) })
 
 -- all threads stand where one goes on
 Table_goes_on : {told : Bool} {script : Script} {config : Config} {disk : OnDisk} {v : View} (w : View)
@@ -233,8 +238,9 @@ Run_goes_on {script} {config} {mid} {new} {t} {s} {after} stands spare at mode o
     let by = goes_on_mode s after on in
     let one : owes s.mode ≡ owes by.0 + 1 = let had : owes s.mode ≡ 1 = ap owes mode in omega (arith, had, by.2) in
     set_stands stands sets (Table_goes_on new.view t after stands.table at goes (stands.quiet t) on drops)
-    (λ is. subst (λ (x : ThreadState). HaveMoments script v.log (set states t x) config mid.collector.journal.items)
-    (sym by.1) (moments_mode config v.log states t by.0 mid.collector.journal.items at goes by.4 (stands.moments is))) spare
+    (λ is. subst (λ (x : ThreadState). TiedMoments script (sight v) (set states t x) config mid.collector.journal.items)
+    (sym by.1) (tied_by (set states t (record s { mode = by.0 })) (stands.moments is)
+    (moments_mode config v.log states t by.0 mid.collector.journal.items at goes by.4 (stands.moments is).have))) spare
     (subst (λ (x : ThreadState). Adds script config states (set states t x) 1 0) (sym by.1)
     (adds_silent script config states t s by.0 at stands.table.count one (open_over s.mode goes)))
 
@@ -253,26 +259,25 @@ Run_taken {s} stands spare at waits takes drops sets =
 rests_taken : {told : Bool} {script : Script} {config : Config} {shown : Shown} {mid new : Row} {t : ℕ}
     {s after : ThreadState} → StandsBut 1 told script config shown mid → slice_get mid.states t ≡ Some s
     → ForCollection s.mode → TakesCollection mid.every s after → SetsState mid new t after
-    → JustMade script mid.view.log mid.states config mid.collector.journal.items
-    → RestMoments script new.view.log new.states config new.collector.journal.items
+    → JustMade script (sight mid.view) mid.states config mid.collector.journal.items
+    → RestMoments script (sight new.view) new.states config new.collector.journal.items
 rests_taken {script} {config} {mid} {new} {t} {s} {after} stands at waits takes sets made =
     let journal : List Journal = mid.collector.journal.items in
-    let rest : RestMoments script mid.view.log (set mid.states t after) config journal =
+    let rest : RestMoments script (sight mid.view) (set mid.states t after) config journal =
     elim (waits_cases s.mode waits) [
       | inl silent ↦
           let by = goes_on_mode s after (takes.silent silent) in
-          subst (λ (x : ThreadState). RestMoments script mid.view.log (set mid.states t x) config journal) (sym by.1)
-          (rests_silent mid.view.log t by.0 journal at (λ over. subst IsEnded silent over) by.4
+          subst (λ (x : ThreadState). RestMoments script (sight mid.view) (set mid.states t x) config journal) (sym by.1)
+          (rests_silent (sight mid.view) t by.0 journal at (λ over. subst IsEnded silent over) by.4
           (stands.table.due t s at (ap owes_silent silent)) made.rest)
       | inr own ↦
           let asked : s.op ≡ Some Collect = collecting_op t stands at own in
-          rests_replied mid.view.log t after reply.Done journal at (λ over. subst IsEnded own over) (takes.takes own).replies
+          rests_replied (sight mid.view) t after reply.Done journal at (λ over. subst IsEnded own over) (takes.takes own).replies
           (told_room (takes.takes own)) (next_op t stands.table at asked) made
     ] in
-    subst (λ (c : Collector). RestMoments script new.view.log new.states config c.journal.items) (sym sets.collector)
-    (subst (λ (xs : List ThreadState). RestMoments script new.view.log xs config journal) (sym sets.states)
-    (subst (λ (h : List Entry). RestMoments script h (set mid.states t after) config journal) (sym sets.epoch.log)
-    rest))
+    subst (λ (c : Collector). RestMoments script (sight new.view) new.states config c.journal.items) (sym sets.collector)
+    (subst (λ (xs : List ThreadState). RestMoments script (sight new.view) xs config journal) (sym sets.states)
+    (subst (λ (x : Sight). RestMoments script x (set mid.states t after) config journal) (sym sets.epoch.seen) rest))
 
 -- the state that was read is that of the thread
 pub state_read : (states items : List ThreadState) (t : ℕ) (s x d : ThreadState) → slice_get states t ≡ Some s

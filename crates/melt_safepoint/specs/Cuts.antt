@@ -1,8 +1,8 @@
 -- Moments of a run: what stood in its history, and what its threads held.
 use Rattle.std.specs.Prelude.{◌≡◌, ◌≢◌, ◌==◌, ℕ, zero, suc, ◌+◌, ◌*◌, ◌%◌, ◌<◌, ◌≤◌, ◌⊎◌, Bool, true, false, if◌then◌else◌, List}
-use Rattle.std.specs.Prelude.{length}
+use Rattle.std.specs.Prelude.{length, [], Contains}
 use Rattle.std.specs.Prelude.{take, slice_get, Some}
-use Rattle.std.specs.List.{count_by}
+use Rattle.std.specs.List.{count_by, IsDistinct}
 use Rattle.melt_model.specs.Alive.{Alive, Held, words_of, CostsSum}
 use Rattle.melt_model.specs.Thread.{Transcript, registers_after, value_in}
 use Rattle.melt_model.specs.declared.config.Config.{Config}
@@ -13,6 +13,9 @@ use Rattle.melt_model.specs.declared.operations.Op.{Op}
 use Rattle.melt_model.specs.declared.operations.Op.TheVariants.{Collect}
 use Rattle.melt_model.specs.declared.operations.Reply.{Reply}
 use Rattle.melt_model.specs.declared.reports.Journal.{Journal}
+use Rattle.melt_model.specs.declared.reports.Phase.{Phase}
+use Rattle.melt_model.specs.declared.reports.Phase.TheVariants.{Inactive, Mark, Move}
+use Rattle.melt_core.specs.StaleBits.{Passed, Used}
 use Rattle.melt_trace.specs.Script.{Script, operations}
 use Rattle.melt_core.specs.Stages.{LooksAtStop}
 use Rattle.melt_safepoint.specs.Asked.{collects, collections, total}
@@ -100,10 +103,10 @@ pub record LacksRoom (script : Script) (log : List Entry) (replies : ℕ → Lis
 
 -- ---- the moments of a run, in its order
 
--- What happened at a moment: a collection, or the end of a thread whose operation needed so many words, where those of
--- the objects that registers held were so many.
+-- What happened at a moment: a collection of a phase, which took these objects away to the disk, or the end of a thread
+-- whose operation needed so many words, where those of the objects that registers held were so many.
 pub data Occasion : Type 0 where
-  collection : Occasion
+  collection : (phase : Phase) (taken : List ℕ) → Occasion
   no_room : (thread held_words need : ℕ) → Occasion
 
 pub record Moment : Type 0 where
@@ -111,7 +114,7 @@ pub record Moment : Type 0 where
   pub of : Occasion
 
 abbrev pub is_collection : Occasion → Bool
-is_collection collection = true
+is_collection (collection phase taken) = true
 is_collection (no_room t held_words need) = false
 
 -- how many of these are moments of collections
@@ -168,7 +171,7 @@ pub record HadOwn (script : Script) (moments : List Moment) (cut : Cut) (t : ℕ
   pub own : Moment
   pub place : ℕ
   pub among : slice_get moments place ≡ Some own
-  pub collected : own.of ≡ collection
+  pub collected : is_collection own.of ≡ true
   pub asked : slice_get (operations script t) (own.cut.replies t) ≡ Some Collect
   pub replies : cut.replies t ≡ suc (own.cut.replies t)
   pub entries : cut.entries ≡ own.cut.entries
@@ -181,7 +184,7 @@ IsSafepoint script log config earlier cut = (t : ℕ) → cut.ended t ≡ false
 
 -- What is said of a moment, by what happened there, where so many collections had been made before it.
 abbrev pub IsMoment : Script → List Entry → (ℕ → List Reply) → Config → List Journal → ℕ → Cut → Occasion → Type 0
-IsMoment script log replies config journal made cut collection = IsCut script log replies config cut
+IsMoment script log replies config journal made cut (collection phase taken) = IsCut script log replies config cut
     × ((entry : Journal) × (slice_get journal made ≡ Some entry) × IsCollectedAt script log entry cut)
 IsMoment script log replies config journal made cut (no_room t held_words need) =
     LacksRoom script log replies config cut t held_words need
@@ -189,6 +192,66 @@ IsMoment script log replies config journal made cut (no_room t held_words need) 
 -- such a moment is one of these
 abbrev pub IsAmong : List Moment → Occasion → Type 0
 IsAmong moments of = (i : ℕ) × ((m : Moment) × (slice_get moments i ≡ Some m) × (m.of ≡ of))
+
+-- ---- what leaves the heap, and what stays
+
+-- a collection marks: after it those objects in use have the stale bit that no register holds
+abbrev pub IsMarking : Occasion → Type 0
+IsMarking (collection Inactive taken) = ⊥
+IsMarking (collection Mark taken) = Unit {0}
+IsMarking (collection Move taken) = Unit {0}
+IsMarking (no_room t held_words need) = ⊥
+
+-- the last of these moments at which a collection marked
+pub record LastMarking (moments : List Moment) (m : Moment) : Type 0 where
+  pub place : ℕ
+  pub at : slice_get moments place ≡ Some m
+  pub marks : IsMarking m.of
+  pub none_later : (i : ℕ) (n : Moment) → place < i → slice_get moments i ≡ Some n → IsMarking n.of → ⊥
+
+-- none marked
+abbrev pub NoneMarked : List Moment → Type 0
+NoneMarked moments = (i : ℕ) (n : Moment) → slice_get moments i ≡ Some n → IsMarking n.of → ⊥
+
+-- At the last marking no register held the object, and it was not used since, by a history.
+pub record IsStaleBy (script : Script) (h : List Entry) (moments : List Moment) (n : ℕ) : Type 0 where
+  pub m : Moment
+  pub last : LastMarking moments m
+  pub unheld : Held (registers_at script h m.cut) n → ⊥
+  pub unused : Used h m.cut.entries n → ⊥
+
+-- Nothing marked yet; or at the last marking a register held the object, or it was used or passed since.
+abbrev pub IsFreshBy : Script → List Entry → List Moment → ℕ → Type 0
+IsFreshBy script h moments n = NoneMarked moments
+    ⊎ ((m : Moment) × LastMarking moments m
+    × (Held (registers_at script h m.cut) n ⊎ Passed h m.cut.entries n))
+
+-- At one of these moments the object was taken away, and it was not used since.
+pub record IsAwayBy (h : List Entry) (moments : List Moment) (n : ℕ) : Type 0 where
+  pub m : Moment
+  pub place : ℕ
+  pub at : slice_get moments place ≡ Some m
+  pub phase : Phase
+  pub taken : List ℕ
+  pub of : m.of ≡ collection phase taken
+  pub contains : Contains taken n
+  pub unused : Used h m.cut.entries n → ⊥
+
+-- What a collection took away, after these moments and with this history: as many different objects as its journal tells
+-- Bodies, none unless it was a Move. No register held one of them, and each was stale since the last marking. In a Move
+-- everything else stayed that was alive and not on the disk: a register held it, or it was fresh.
+pub record TakesAt (script : Script) (h : List Entry) (journal : List Journal) (earlier : List Moment) (cut : Cut)
+    (phase : Phase) (taken : List ℕ) : Type 0 where
+  pub entry : Journal
+  pub written : slice_get journal (collections_among earlier) ≡ Some entry
+  pub of_phase : entry.phase ≡ phase
+  pub counts : length taken ≡ entry.bodies
+  pub once : IsDistinct (λ a b. a == b) taken
+  pub only_moves : phase ≢ Move → taken ≡ []
+  pub unheld : (n : ℕ) → Contains taken n → Held (registers_at script h cut) n → ⊥
+  pub stale : (n : ℕ) → Contains taken n → IsStaleBy script h earlier n
+  pub stays : (n : ℕ) → phase ≡ Move → Alive h (registers_at script h cut) n → (Contains taken n → ⊥)
+      → Held (registers_at script h cut) n ⊎ (IsFreshBy script h earlier n ⊎ IsAwayBy h earlier n)
 
 -- The moments of a run, in its order: that of each collection, one after the other, and those at which threads ended
 -- for want of room. Each is a safepoint. At all later ones such a thread has ended.
@@ -200,6 +263,9 @@ pub record AreMoments (script : Script) (log : List Entry) (replies : ℕ → Li
       → IsSafepoint script log config (take i moments) m.cut
   pub counts : (i : ℕ) (m : Moment) → slice_get moments i ≡ Some m
       → CountsBy script config replies m.cut (collections_among (take i moments))
+  pub takes : (i : ℕ) (m : Moment) (phase : Phase) (taken : List ℕ) → slice_get moments i ≡ Some m
+      → m.of ≡ collection phase taken
+      → TakesAt script (history_at log m.cut) journal (take i moments) m.cut phase taken
   pub order : (i j : ℕ) (m n : Moment) → i < j → slice_get moments i ≡ Some m → slice_get moments j ≡ Some n
       → NotAfter m.cut n.cut
   pub gone : (i j : ℕ) (m n : Moment) (t held_words need : ℕ) → i < j → slice_get moments i ≡ Some m

@@ -16,7 +16,7 @@ use Rattle.melt_safepoint.specs.Counts.{CountsCollections}
 use Rattle.melt_safepoint.specs.Made.{MakesWithin}
 use Rattle.melt_safepoint.specs.Passing.{OneWaits}
 use Rattle.melt_safepoint.specs.Shown.{Shown, Underlies}
-use Rattle.melt_safepoint.specs.Endings.{HaveMoments}
+use Rattle.melt_safepoint.specs.Endings.{SomeMoments}
 use Rattle.melt_safepoint.specs.Tables.{TableStands}
 use Rattle.melt_safepoint.specs.Threads.{AreHalted, AllEnded, SomeGoesOn}
 use Rattle.melt_safepoint.specs.declared.ending.Ended.{Ended}
@@ -54,7 +54,7 @@ pub record EndedStands (told : Bool) (script : Script) (config : Config) (shown 
   pub v : View
   pub states : List ThreadState
   pub table : TableStands told script config disk v states
-  pub moments : told ≡ true → HaveMoments script v.log states config ended.journal.items
+  pub moments : told ≡ true → SomeMoments script v.log states config ended.journal.items
   pub journal : IsJournalOf config ended.journal.items
   pub made : told ≡ true → MakesWithin config v.log ended.journal.items
   pub unpaid : ℕ

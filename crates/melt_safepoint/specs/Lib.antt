@@ -24,3 +24,4 @@ pub mod Spaces
 pub mod Tables
 pub mod Threads
 pub mod Writes
+pub mod Staying

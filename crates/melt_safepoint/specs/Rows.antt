@@ -11,12 +11,13 @@ use Rattle.melt_io.specs.Outside.{Rose}
 use Rattle.melt_trace.specs.Script.{Script}
 use Rattle.melt_move.specs.Planned.{phase_done}
 use Rattle.melt_scion.specs.Heaps.{OnDisk}
+use Rattle.melt_core.specs.StaleBits.{sight}
 use Rattle.melt_core.specs.Views.{View, value, IsQuiet}
 use Rattle.melt_safepoint.specs.declared.thread.ThreadState.{ThreadState}
 use Rattle.melt_safepoint.specs.Collections.{CollectsCore, AllMarked, MadeSoFar, NoneForwarded}
 use Rattle.melt_safepoint.specs.Counts.{CountsCollections}
 use Rattle.melt_safepoint.specs.Ended.{StopsSo}
-use Rattle.melt_safepoint.specs.Endings.{HaveMoments, RestMoments}
+use Rattle.melt_safepoint.specs.Endings.{RestMoments, TiedMoments}
 use Rattle.melt_safepoint.specs.Journals.{IsJournalOf, IsTight, Planned, before, end_of, next_of}
 use Rattle.melt_safepoint.specs.Lends.{LendsFew, LendsTwice}
 use Rattle.melt_safepoint.specs.Losses.{CountsLosses}
@@ -82,7 +83,7 @@ pub record StandsBut (unpaid : ℕ) (told : Bool) (script : Script) (config : Co
   pub every : run.every ≡ config.every
   pub told_is : run.told ≡ told
   pub collector : CollectorStands config shown run.collector
-  pub moments : told ≡ true → HaveMoments script run.view.log run.states config run.collector.journal.items
+  pub moments : told ≡ true → TiedMoments script (sight run.view) run.states config run.collector.journal.items
   pub made : told ≡ true → MadeSoFar config run.view run.collector.journal.items
   pub counts : CountsCollections script config unpaid run.states (length run.collector.journal.items)
 
@@ -102,7 +103,7 @@ KeepsRun shown later old new = (told : Bool) (script : Script) (config : Config)
 -- a run that is told has its moments, and is at a safepoint
 abbrev pub RestsSo : Bool → Script → Config → Row → Type 0
 RestsSo told script config run =
-    told ≡ true → RestMoments script run.view.log run.states config run.collector.journal.items
+    told ≡ true → RestMoments script (sight run.view) run.states config run.collector.journal.items
 
 -- And it stands. So it does between the collections of a safepoint.
 abbrev pub RunRests : Bool → Script → Config → Shown → Row → Type 0

@@ -24,7 +24,7 @@ use Rattle.melt_scion.specs.declared.registers.Registers.{Registers}
 use Rattle.melt_core.specs.declared.call.Call.{Call}
 use Rattle.melt_core.specs.Views.{call_in, held_values, registers_in, value, values_of}
 use Rattle.melt_safepoint.specs.Collections.{MadeSoFar, NoneForwarded}
-use Rattle.melt_safepoint.specs.Endings.{HaveMoments}
+use Rattle.melt_safepoint.specs.Endings.{TiedMoments}
 use Rattle.melt_safepoint.specs.Epochs.{EndsEpoch, MayRunEpoch, to_do}
 use Rattle.melt_safepoint.specs.Journals.{IsJournalOf}
 use Rattle.melt_safepoint.specs.Passing.{NoneOwn, WaitsForRoom}
@@ -133,11 +133,11 @@ renews_stands {unpaid} {told} {script} {config} {shown} {old} {new} r stands = r
   told_is = r.told ∙ stands.told_is;
   collector = subst (CollectorStands config shown) (sym r.collector) stands.collector;
   moments = λ is.
-      subst (λ (c : Collector). HaveMoments script new.view.log new.states config c.journal.items) (sym r.collector)
-      (subst (λ (xs : List ThreadState). HaveMoments script new.view.log xs config old.collector.journal.items)
+      subst (λ (c : Collector). TiedMoments script (sight new.view) new.states config c.journal.items) (sym r.collector)
+      (subst (λ (xs : List ThreadState). TiedMoments script (sight new.view) xs config old.collector.journal.items)
       (sym r.states)
-      (subst (λ (h : List Entry). HaveMoments script h old.states config old.collector.journal.items)
-      (sym r.finished.log) (stands.moments is)));
+      (subst (λ (s : Sight). TiedMoments script s old.states config old.collector.journal.items)
+      (sym (finished_sight old.view new.view r.finished)) (stands.moments is)));
   made = λ is.
       subst (λ (c : Collector). MadeSoFar config new.view c.journal.items) (sym r.collector)
       (made_same (config.heap * length old.collector.journal.items) old.view new.view r.finished.names r.finished.log
@@ -202,7 +202,7 @@ renews_awaits {told} {script} {config} {shown} {forced} {old} {new} {t} r awaits
     awaits.collected.journal stands.collector.journal in
     record {
       stands = renews_stands r stands;
-      safe = safe_same old new r.finished.log r.states r.collector awaits.safe;
+      safe = safe_same old new (finished_sight old.view new.view r.finished) r.states r.collector awaits.safe;
       few = awaits.few;
       owed = subst (OweAfterCollects script) (sym r.states) awaits.owed;
       collected = renews_collected r stands awaits.collected;

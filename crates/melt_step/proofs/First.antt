@@ -30,8 +30,9 @@ use Rattle.melt_safepoint.specs.Needs.{NeedsWords}
 use Rattle.melt_safepoint.specs.Shown.{Shown, Underlies}
 use Rattle.melt_safepoint.specs.Threads.{DueBy, OweAfterCollects, jobs_of, left, with_first}
 use Rattle.melt_safepoint.specs.Modes.{FitsMode, IsEnded, jobs, mode_for}
-use Rattle.melt_safepoint.specs.Endings.{HaveMoments}
-use Rattle.melt_safepoint.proofs.AtSafepoint.{safe_same}
+use Rattle.melt_safepoint.specs.Endings.{TiedMoments}
+use Rattle.melt_safepoint.proofs.LackingWords.{lacks_words}
+use Rattle.melt_safepoint.proofs.Staying.{one_address, tied_still}
 use Rattle.melt_safepoint.proofs.Counting.{Adds, counts_paid}
 use Rattle.melt_safepoint.proofs.Cuts.{held_words_same, needs_same}
 use Rattle.melt_safepoint.proofs.Journals.{before_end}
@@ -40,18 +41,19 @@ use Rattle.melt_safepoint.proofs.Threads.{set_got}
 use Rattle.melt_safepoint.proofs.Lacking.{lacking_open, Frees, frees_ended, told_goes, called_at}
 use Rattle.melt_safepoint.specs.Collections.{AllMarked, MadeSoFar}
 use Rattle.melt_step.specs.Lone.{IsAloneReady, CalledAlone, CalledOver, LacksAlone}
-use Rattle.melt_step.specs.Going.{CallsFirst, StandsInside, MadeCall, MakesCall}
+use Rattle.melt_step.specs.Going.{CallsFirst, StandsInside, MadeCall, MakesCall, MomentsSince}
 use Rattle.melt_safepoint.specs.Epochs.{LacksFirst}
 use Rattle.melt_safepoint.specs.Passing.{NoneOwn}
 use Rattle.melt_safepoint.specs.Rows.{AwaitsCall, CollectorStands, JustCollected, LacksBy, LacksWords, LeftBy, OnlyHeld}
 use Rattle.melt_safepoint.specs.Rows.{Row, SomeAwaits, StandsBut, last_of}
 use Rattle.melt_step.specs.Made.{MakesInUse}
 use Rattle.melt_step.specs.Tied.{KeepsTied}
+use Rattle.melt_step.proofs.Since.{since_begun}
 use Rattle.melt_step.proofs.Tied.{bits_told, has_registers, tied_begins}
 use Rattle.melt_safepoint.specs.Tables.{IsReady, TableStands, ThreadLost, ThreadStep, ThreadTold}
 use Rattle.melt_safepoint.specs.declared.collector.Collector.{Collector}
 use Rattle.melt_safepoint.proofs.TableCounts.{adds_got, adds_lost, counts_of}
-use Rattle.melt_safepoint.proofs.Tables.{Table_lacks, Table_step, Table_untold, moments_step, table_ready}
+use Rattle.melt_safepoint.proofs.Tables.{Table_lacks, Table_step, Table_untold, log_step, moments_step, table_ready}
 
 -- what it has next
 pub lacking_next : {told : Bool} {script : Script} {config : Config} {disk : OnDisk} {v : View}
@@ -222,8 +224,10 @@ made_stands {told} {script} {config} {shown} {forced} {old} {new} {t} {lacks} aw
     let fits = lacking_next stands.table m.was in
     let table : TableStands told script config disk w (set states t m.after) =
     Table_step within stands.table m.was.at open_ step due in
-    let moments : told ≡ true → HaveMoments script w.log (set states t m.after) config old.collector.journal.items = λ tells.
-    moments_step old.collector.journal.items within stands.table m.was.at open_ step due (stands.moments tells) in
+    let moments : told ≡ true → MomentsSince v script w.log (set states t m.after) config old.collector.journal.items =
+    λ tells. since_begun told tells stands.table.stands (stands.moments tells)
+    (log_step within stands.table m.was.at open_ step due)
+    (moments_step old.collector.journal.items within stands.table m.was.at open_ step due (stands.moments tells).have) in
     let adds : Adds script config states (set states t m.after) 0 1 = elim (came none (call_over awaits m)).1 [
       | inl is ↦ adds_lost stands.table m.was.at is
       | inr got ↦ adds_got stands.table m.was.at due open_ got (λ same. fits.1 (got.next ∙ ap Some same))
@@ -238,8 +242,8 @@ made_stands {told} {script} {config} {shown} {forced} {old} {new} {t} {lacks} aw
       told_is = m.told ∙ stands.told_is;
       collector = subst (CollectorStands config shown) (sym m.collector) stands.collector;
       moments = λ tells.
-          subst (λ (c : Collector). HaveMoments script w.log new.states config c.journal.items) (sym m.collector)
-          (subst (λ (xs : List ThreadState). HaveMoments script w.log xs config old.collector.journal.items)
+          subst (λ (c : Collector). MomentsSince v script w.log new.states config c.journal.items) (sym m.collector)
+          (subst (λ (xs : List ThreadState). MomentsSince v script w.log xs config old.collector.journal.items)
           (sym m.states) (moments tells));
       made = call_makes awaits m;
       counts = counts_of script config new (set states t m.after) old.collector m.states m.collector
@@ -328,8 +332,8 @@ stands_same : {unpaid : ℕ} {told : Bool} {script : Script} {config : Config} {
     (stands : StandsBut unpaid told script config shown old) → SameRun old new
     → TableStands told script config stands.disk new.view old.states → IsQuiet new.view
     → (told ≡ true → MadeSoFar config new.view new.collector.journal.items)
-    → StandsBut unpaid told script config shown new
-stands_same {unpaid} {told} {script} {config} {shown} {old} {new} stands same table quiet made =
+    → (told ≡ true → BitsTold (sight old.view) (sight new.view)) → StandsBut unpaid told script config shown new
+stands_same {unpaid} {told} {script} {config} {shown} {old} {new} stands same table quiet made bits =
     let w : View = new.view in
     record {
       disk = stands.disk;
@@ -342,11 +346,12 @@ stands_same {unpaid} {told} {script} {config} {shown} {old} {new} stands same ta
       told_is = same.told ∙ stands.told_is;
       collector = subst (CollectorStands config shown) (sym same.collector) stands.collector;
       moments = λ tells.
-          subst (λ (c : Collector). HaveMoments script w.log new.states config c.journal.items) (sym same.collector)
-          (subst (λ (xs : List ThreadState). HaveMoments script w.log xs config old.collector.journal.items)
+          subst (λ (c : Collector). TiedMoments script (sight w) new.states config c.journal.items) (sym same.collector)
+          (subst (λ (xs : List ThreadState). TiedMoments script (sight w) xs config old.collector.journal.items)
           (sym same.states)
-          (subst (λ (h : List Entry). HaveMoments script h old.states config old.collector.journal.items)
-          (sym same.history) (stands.moments tells)));
+          (tied_still same.history
+          (one_address (subst (λ (b : Bool). Standing b stands.disk w) tells table.stands)) (bits tells)
+          (stands.moments tells)));
       made = made;
       counts = counts_of script config new old.states old.collector same.states same.collector stands.counts;
     }
@@ -361,31 +366,6 @@ values_stay v w t others here u r =
     ] in
     ap (λ (xs : List Value). value_in xs r) all
 
--- after a collection that left a claim of a call no room, an object of the largest size may have none
-tight_after : (config : Config) (run : Row) (words need : ℕ) → JustCollected run → words ≡ config.heap
-    → words + 1 < run.view.free + need → need ≤ 126 → IsTight config (last_of run.collector)
-tight_after config run words need collected is above small =
-    let last : last_of run.collector ≡ Some collected.last =
-    ap (λ (js : List Journal). before js (length js)) collected.journal
-    ∙ before_end collected.prefix collected.last in
-    let tight : config.heap < collected.last.live + 126 = omega (arith, above, small, is, collected.free) in
-    subst (IsTight config) (sym last) tight
-
--- what the Moves that were forced tell of a call that lacked words after them
-left_by : (config : Config) (forced : ℕ) (v w : View) (need : ℕ) → LeftBy forced v → (AllMarked v → AllMarked w)
-    → w.log ≡ v.log → ((u r : ℕ) → value w u r ≡ value v u r) → config.heap + 1 < v.free + need
-    → LacksBy config forced w need
-left_by config zero v w need by marked history values above = tt
-left_by config (suc zero) v w need by marked history values above = marked by
-left_by config (suc (suc k)) v w need by marked history values above = λ held holds.
-    let only : OnlyHeld v = by in
-    let here : CostsSum (words_of v.log) (Held (value w)) held =
-    subst (λ (h : List Entry). CostsSum (words_of h) (Held (value w)) held) history holds in
-    let there : CostsSum (words_of v.log) (Held (value v)) held =
-    held_words_same v.log (value w) (value v) held values here in
-    let one : held ≡ only.words = CostsSum-one (words_of v.log) (Held (value v)) held only.words there only.holds in
-    omega (arith, one, above, only.free)
-
 -- the threads are as they were after a call that lacked words
 pub lacked_states : {told : Bool} {script : Script} {config : Config} {shown : Shown} {forced : ℕ} {old new : Row}
     {t : ℕ} {lacks : Option ℕ} (need : ℕ) → AwaitsCall told script config shown forced old t
@@ -393,6 +373,17 @@ pub lacked_states : {told : Bool} {script : Script} {config : Config} {shown : S
 lacked_states {told} {script} {config} {shown} {forced} {old} {new} {t} {lacks} need awaits m is =
     let alone = lacked need is (call_over awaits m) in
     m.states ∙ (ap (λ (x : ThreadState). set old.states t x) alone.same ∙ set_got old.states t m.s m.was.at)
+
+-- no bit has changed but as the history tells
+lacked_bits : {told : Bool} {script : Script} {config : Config} {shown : Shown} {forced : ℕ} {old new : Row} {t : ℕ}
+    {lacks : Option ℕ} (need : ℕ) → AwaitsCall told script config shown forced old t
+    → MakesCall shown old new t lacks → lacks ≡ Some need → told ≡ true → BitsTold (sight old.view) (sight new.view)
+lacked_bits {told} {script} {config} {shown} {forced} {old} {new} {t} {lacks} need awaits m is tells =
+    let over = call_over awaits m in
+    bits_told old.view new.view
+    (subst (λ (b : Bool). Standing b awaits.stands.disk old.view) tells awaits.stands.table.stands)
+    (quiet_after old.view new.view t over.others (lacked need is over).call awaits.stands.quiet)
+    (call_tied awaits m tells)
 
 -- the run stands after a call that lacked words
 lacked_stands : {told : Bool} {script : Script} {config : Config} {shown : Shown} {forced : ℕ} {old new : Row}
@@ -413,6 +404,7 @@ lacked_stands {told} {script} {config} {shown} {forced} {old} {new} {t} {lacks} 
     (Table_lacks awaits.stands.table m.was.at m.was.lacking over.stands over.others
     (alone.call, alone.history, alone.values))
     (quiet_after old.view new.view t over.others alone.call awaits.stands.quiet) (call_makes awaits m)
+    (lacked_bits need awaits m is)
 
 -- and the thread lacks them
 pub lacked_words : {told : Bool} {script : Script} {config : Config} {shown : Shown} {forced : ℕ} {old new : Row}
@@ -424,40 +416,22 @@ lacked_words {told} {script} {config} {shown} {forced} {old} {new} {t} {lacks} n
     let over = call_over awaits m in
     let alone = lacked need is over in
     let states : new.states ≡ old.states = lacked_states need awaits m is in
-    let values : (u r : ℕ) → value w u r ≡ value v u r = values_stay v w t over.others alone.values in
     let words : length v.space.list ≡ config.heap = awaits.stands.table.words in
     let above : length v.space.list + 1 < v.free + need = alone.above in
-    record {
-      stands = lacked_stands need awaits m is;
-      safe = safe_same old new alone.history states m.collector awaits.safe;
-      few = awaits.few;
-      owed = subst (OweAfterCollects script) (sym states) awaits.owed;
-      own = subst NoneOwn (sym states) awaits.own;
+    lacks_words awaits (lacked_stands need awaits m is) (record {
+      states = states;
+      collector = m.collector;
+      history = alone.history;
+      values = values_stay v w t over.others alone.values;
+      above = omega (arith, above, words);
+      small = alone.small;
       none_forwarded = alone.none_forwarded;
-      waits = subst (λ (xs : List ThreadState). WaitsForRoom xs t) (sym states) awaits.waits;
-      tight = subst (λ (c : Collector). IsTight config (last_of c)) (sym m.collector)
-          (tight_after config old (length v.space.list) need awaits.collected words above alone.small);
+      marked = λ tells. alone.marked;
+      bits = lacked_bits need awaits m is;
       op = m.op;
-      next = λ x at.
-          let here : slice_get old.states t ≡ Some x =
-          ap (λ (xs : List ThreadState). slice_get xs t) (sym states) ∙ at in
-          ap (λ (y : ThreadState). y.op) (sym (same_Some m.s x (sym m.was.at ∙ here))) ∙ m.next;
-      needs = λ tells. subst (λ (h : List Entry). NeedsWords h (value w) t m.op need) (sym alone.history)
-          (needs_same v.log (value v) (value w) t m.op need (λ u r. sym (values u r)) (alone.needs tells));
-      left = λ tells. left_by config forced v w need (awaits.left tells) alone.marked alone.history values
-          (omega (arith, above, words));
-    }
-
--- and no bit has changed but as the history tells
-lacked_bits : {told : Bool} {script : Script} {config : Config} {shown : Shown} {forced : ℕ} {old new : Row} {t : ℕ}
-    {lacks : Option ℕ} (need : ℕ) → AwaitsCall told script config shown forced old t
-    → MakesCall shown old new t lacks → lacks ≡ Some need → told ≡ true → BitsTold (sight old.view) (sight new.view)
-lacked_bits {told} {script} {config} {shown} {forced} {old} {new} {t} {lacks} need awaits m is tells =
-    let over = call_over awaits m in
-    bits_told old.view new.view
-    (subst (λ (b : Bool). Standing b awaits.stands.disk old.view) tells awaits.stands.table.stands)
-    (quiet_after old.view new.view t over.others (lacked need is over).call awaits.stands.quiet)
-    (call_tied awaits m tells)
+      next = λ x at. ap (λ (y : ThreadState). y.op) (sym (same_Some m.s x (sym m.was.at ∙ at))) ∙ m.next;
+      needs = alone.needs;
+    })
 
 -- so the call was made
 call_made : {seen shown : Shown} {forced : ℕ} {old new : Row} {t : ℕ} {lacks : Option ℕ}

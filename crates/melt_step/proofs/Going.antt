@@ -11,19 +11,18 @@ use Rattle.melt_core.specs.Views.{View, IsQuiet, Standing}
 use Rattle.melt_safepoint.specs.declared.thread.ThreadState.{ThreadState}
 use Rattle.melt_safepoint.specs.Shown.{Shown, Underlies}
 use Rattle.melt_safepoint.specs.Threads.{DueBy}
-use Rattle.melt_safepoint.specs.Endings.{HaveMoments}
 use Rattle.melt_safepoint.specs.Modes.{MayGo}
 use Rattle.melt_safepoint.proofs.Modes.{goes_on}
 use Rattle.melt_safepoint.proofs.Counting.{Adds, counts_on}
 use Rattle.melt_safepoint.specs.declared.collector.Collector.{Collector}
 use Rattle.melt_safepoint.specs.Rows.{CollectorStands, Row}
-use Rattle.melt_step.specs.Going.{ComesToRest, StandsInside, KeepsGoing, MadeCall, SomeStandsInside}
+use Rattle.melt_step.specs.Going.{ComesToRest, StandsInside, KeepsGoing, MadeCall, MomentsSince, SomeStandsInside}
 use Rattle.melt_safepoint.specs.Collections.{MadeSoFar}
 use Rattle.melt_step.specs.Made.{MakesInUse}
 use Rattle.melt_step.specs.Tied.{KeepsTied}
 use Rattle.melt_safepoint.specs.Tables.{TakesTurn, ThreadStep, ThreadTold, TableStands, potential}
 use Rattle.melt_core.proofs.Disks.{stands_untold}
-use Rattle.melt_safepoint.proofs.Tables.{Table_step, Table_untold, moments_step}
+use Rattle.melt_safepoint.proofs.Tables.{Table_step, Table_untold, log_step, moments_step}
 use Rattle.melt_safepoint.proofs.TableCounts.{collections_step, counts_of}
 use Rattle.melt_step.proofs.Potentials.{step_jobs, step_nearer}
 use Rattle.melt_safepoint.specs.Epochs.{MayRunEpoch, RestsWell, RunsEpoch, to_do}
@@ -33,6 +32,7 @@ use Rattle.melt_safepoint.specs.Threads.{AllWait}
 use Rattle.melt_safepoint.proofs.MakingAgain.{AgainBelow}
 use Rattle.melt_safepoint.proofs.Tables.{waiting_quiet}
 use Rattle.melt_safepoint.proofs.ToDo.{to_do_within_set}
+use Rattle.melt_step.proofs.Since.{since_by, since_first, since_more, since_over}
 use Rattle.melt_step.proofs.Tied.{bits_told, has_registers, tied_begins}
 
 -- a run stands on after an event of a thread that can go on
@@ -69,11 +69,13 @@ step_keeps {finish} {image} old new t {s} after at goes turn states due makes ti
       told_is = is_told ∙ stands.told_is;
       collector = subst (CollectorStands config shown) (sym collector) stands.collector;
       moments = λ is.
-          subst (λ (xs : List ThreadState). HaveMoments script new.view.log xs config new.collector.journal.items)
+          subst (λ (xs : List ThreadState). MomentsSince begun script new.view.log xs config new.collector.journal.items)
           (sym states)
-          (subst (λ (c : Collector). HaveMoments script new.view.log (set had t after) config c.journal.items)
+          (subst (λ (c : Collector). MomentsSince begun script new.view.log (set had t after) config c.journal.items)
           (sym collector)
-          (moments_step old.collector.journal.items within table at (goes_on s.mode goes) step by (stands.moments is)));
+          (since_more (stands.moments is) (log_step within table at (goes_on s.mode goes) step by)
+          (moments_step old.collector.journal.items within table at (goes_on s.mode goes) step by
+          (stands.moments is).have)));
       made = λ is.
           subst (λ (c : Collector). MadeSoFar config new.view c.journal.items) (sym collector)
           (makes disk (subst (λ (b : Bool). Underlies b finish image disk) is under)
@@ -148,9 +150,12 @@ again_keeps shown old new n again quiet core collector every words is_told begun
       told_is = is_told ∙ stands.told_is;
       collector = subst (CollectorStands config shown) (sym collector) stands.collector;
       moments = λ is.
-          subst (λ (v : View). HaveMoments script v.log new.states config new.collector.journal.items) (sym core)
-          (subst (λ (c : Collector). HaveMoments script old.view.log new.states config c.journal.items)
-          (sym collector) (again.moments script old.view.log config old.collector.journal.items (stands.moments is)));
+          subst (λ (v : View). MomentsSince begun script v.log new.states config new.collector.journal.items) (sym core)
+          (subst (λ (c : Collector). MomentsSince begun script old.view.log new.states config c.journal.items)
+          (sym collector)
+          (since_by new.states (stands.moments is)
+          (again.moments script old.view.log config old.collector.journal.items (stands.moments is).moments
+          (stands.moments is).have)));
       made = λ is.
           subst (λ (v : View). MadeSoFar config v new.collector.journal.items) (sym core)
           (subst (λ (c : Collector). MadeSoFar config old.view c.journal.items) (sym collector) (stands.made is));
@@ -189,7 +194,7 @@ goes_from {told} {script} {config} {shown} {run} stands = record {
   every = stands.every;
   told_is = stands.told_is;
   collector = stands.collector;
-  moments = stands.moments;
+  moments = λ is. since_first told is stands.table.stands (stands.moments is);
   made = stands.made;
   counts = stands.counts;
   tied = λ is. tied_begins run.view stands.quiet;
@@ -208,7 +213,8 @@ stands_from {told} {script} {config} {shown} {run} waits goes = record {
   every = goes.every;
   told_is = goes.told_is;
   collector = goes.collector;
-  moments = goes.moments;
+  moments = λ is. since_over told is goes.table.stands
+      (waiting_quiet told script config goes.disk run.view run.states goes.table waits) (goes.tied is) (goes.moments is);
   made = goes.made;
   counts = goes.counts;
 }

@@ -8,6 +8,7 @@ pub mod Lone
 pub mod LoneCalls
 pub mod Potentials
 pub mod Resting
+pub mod Since
 pub mod Starting
 pub mod Stored
 pub mod Tied

@@ -1,17 +1,22 @@
 -- A run by the written order inside an epoch.
-use Rattle.std.specs.Prelude.{◌≡◌, ◌≢◌, ℕ, ◌<◌, Bool, true, false, List, [], length, Option, None, Some, slice_set}
+use Rattle.std.specs.Prelude.{◌≡◌, ◌≢◌, ℕ, ◌<◌, ◌≤◌, Bool, true, false, List, [], ◌++◌, length, Option, None, Some}
+use Rattle.std.specs.Prelude.{slice_get, slice_set}
 use Rattle.melt_model.specs.declared.config.Config.{Config}
+use Rattle.melt_model.specs.declared.history.Entry.{Entry}
+use Rattle.melt_model.specs.declared.reports.Journal.{Journal}
 use Rattle.melt_trace.specs.Script.{Script}
 use Rattle.melt_scion.specs.Heaps.{OnDisk}
-use Rattle.melt_core.specs.StaleBits.{TiedTo}
-use Rattle.melt_core.specs.Views.{IsQuiet, View, call_of, view}
+use Rattle.melt_core.specs.StaleBits.{TiedTo, sight}
+use Rattle.melt_core.specs.Views.{IsQuiet, Standing, View, call_of, view}
 use Rattle.melt_safepoint.specs.Collections.{MadeSoFar}
 use Rattle.melt_safepoint.specs.Counts.{CountsCollections}
+use Rattle.melt_safepoint.specs.Cuts.{Moment}
 use Rattle.melt_safepoint.specs.Endings.{HaveMoments}
 use Rattle.melt_safepoint.specs.Epochs.{LacksFirst}
 use Rattle.melt_safepoint.specs.Passing.{CalledAt, IsLacking}
 use Rattle.melt_safepoint.specs.Rows.{AwaitsCall, CollectorStands, Row, RunStands}
 use Rattle.melt_safepoint.specs.Shown.{Shown, Underlies}
+use Rattle.melt_safepoint.specs.Staying.{KeepsBits}
 use Rattle.melt_safepoint.specs.Tables.{TableStands, potential}
 use Rattle.melt_model.specs.declared.operations.Op.{Op}
 use Rattle.melt_model.specs.declared.operations.Op.TheVariants.{Collect}
@@ -32,6 +37,19 @@ core_view it = view it.core
 abbrev pub kept_view : {stored : ℕ} → Ordered stored → View
 kept_view {stored} it = view_by stored it.core
 
+-- The moments of a run inside an epoch that began so, and that wrote so much more into the history: those with which it
+-- began, to which stale bits were tied then.
+pub record MomentsSince (begun : View) (script : Script) (log : List Entry) (states : List ThreadState) (config : Config)
+    (journal : List Journal) : Type 0 where
+  pub moments : List Moment
+  pub have : HaveMoments script log states config journal moments
+  pub past : (i : ℕ) (m : Moment) → slice_get moments i ≡ Some m → m.cut.entries ≤ length begun.log
+  pub bits : KeepsBits script moments (sight begun)
+  pub more : List Entry
+  pub grown : log ≡ begun.log ++ more
+  pub disk : OnDisk
+  pub stood : Standing true disk begun
+
 -- A run stands inside an epoch that began so as between two, but that calls may be in flight. The stale bit is tied to
 -- the history since.
 pub record StandsInside (begun : View) (told : Bool) (script : Script) (config : Config) (shown : Shown) (run : Row)
@@ -44,7 +62,8 @@ pub record StandsInside (begun : View) (told : Bool) (script : Script) (config :
   pub every : run.every ≡ config.every
   pub told_is : run.told ≡ told
   pub collector : CollectorStands config shown run.collector
-  pub moments : told ≡ true → HaveMoments script run.view.log run.states config run.collector.journal.items
+  pub moments : told ≡ true
+      → MomentsSince begun script run.view.log run.states config run.collector.journal.items
   pub made : told ≡ true → MadeSoFar config run.view run.collector.journal.items
   pub counts : CountsCollections script config 0 run.states (length run.collector.journal.items)
   pub tied : told ≡ true → TiedTo begun run.view
