@@ -2,7 +2,7 @@
 import itertools
 import random
 
-from fuzzing import moving
+from fuzzing import contested, moving
 from fuzzing.traces import KINDS
 from modelling.traces import operations_in, script_of
 
@@ -59,14 +59,16 @@ def call_of(seed, number):
     """Call number NUMBER of a seed."""
     for turn in itertools.count():
         rng = random.Random(f"threads {seed} {number} {turn}")
-        lines, given = moving.trace(rng) if rng.random() < 0.5 else rng.choice(KINDS)(rng)
-        if rng.random() < 0.5:
+        is_contested = rng.random() < 1 / 3
+        lines, given = contested.trace(rng) if is_contested else moving.trace(rng) if rng.random() < 0.5 else rng.choice(KINDS)(rng)
+        if not is_contested and rng.random() < 0.5:
             lines = crowded(lines, rng.choice([3, 4, 5, 6, 8]))
         script = script_of("\n".join(lines).encode())
         operations = [operations_in(program) for program in script.programs]
         if sum(count > 0 for count in operations) < 2 or sum(operations) > MOST_OPERATIONS:
             continue
-        given = options_of(rng, given)
+        if not is_contested:
+            given = options_of(rng, given)
         if "every" not in given:               # there a delay is as many collections
             lines = delayed(rng, lines)
         pairs = list(given.items())

@@ -7,5 +7,6 @@ mod judged;
 mod random;
 mod readers;
 mod short;
+mod tagged;
 mod trial;
 mod trials;

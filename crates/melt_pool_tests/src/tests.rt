@@ -21,7 +21,10 @@ use std::test::Fail;
 use std::thread;
 use std::thread::Threads;
 
+mod meeting;
 mod run;
+
+use meeting::{Meeting, TURNS};
 
 /// The reader of a disk that has no words, whose reads fail.
 #[derive(Drop)]
@@ -44,23 +47,23 @@ impl RecordReader for NoDisk {
     }
 }
 
-/// How often a thread looks for another before it goes on without it.
-const TURNS: u32 = 1_000_000;
-
-/// A gate that counts what it is told of two threads, and what it is told out of turn. The second thread asks all to
-/// stop by its fourth operation, and does not begin that before the first begins its fifth, which no stop refuses.
+/// A gate that counts what it is told of two threads, and what it is told out of turn, and lets them meet. The second
+/// thread asks all to stop by its fourth operation, and does not begin that before the first begins its fifth, which no
+/// stop refuses.
 #[derive(Drop)]
 struct Counts {
     told: [AtomicU64; 2],
     out_of_turn: AtomicU64,
+    meeting: Meeting,
 }
 
 impl Counts {
     /// A gate that was told of so many operations of the first thread.
-    fn new(first: u64) -> Counts {
+    fn new(first: u64, meeting: Meeting) -> Counts {
         Counts {
             told: [AtomicU64::new(first), AtomicU64::new(0)],
             out_of_turn: AtomicU64::new(0),
+            meeting,
         }
     }
 
@@ -86,6 +89,7 @@ impl Gate for Counts {
         if thread == 1 && op == 4 {
             self.wait_for_first();
         }
+        self.meeting.before(thread, op);
     }
 }
 
@@ -231,17 +235,19 @@ fn expect_all(
     same(
         (told, gate.out_of_turn.load(Ordering::SeqCst)),
         ([wanted[0].told, wanted[1].told], 0),
-    )
+    )?;
+    same(gate.meeting.missed(), 0)
 }
 
-/// Runs two threads through an epoch, and compares what they come to, how many words are in use after it, and how many
-/// the first call lacked. The gate was told of the call that is made first.
+/// Runs two threads through an epoch in which they meet, and compares what they come to, how many words are in use after
+/// it, and how many the first call lacked. The gate was told of the call that is made first.
 fn expect_epoch<R: Abort + Threads + Sync>(
     rt: &R,
     alloc: Global,
     mutators: &mut [Mutator<Worker<'_, NoDisk>>],
     every: u32,
     first: Option<u32>,
+    meeting: Meeting,
     wanted: &[Wanted<'_>; 2],
     words: (u32, Option<u32>),
 ) -> Result<(), Fail>
@@ -251,7 +257,7 @@ fn expect_epoch<R: Abort + Threads + Sync>(
     requires first { IfSome first (LacksAt mutators.old) }
 {
     let heap = Heap::new(alloc, 64, 1, 1, false)?;
-    let gate = Counts::new(u64::from(first.is_some()));
+    let gate = Counts::new(u64::from(first.is_some()), meeting);
     let came = run_on(rt, alloc, heap, mutators, every, first, &gate);
     same(came, words)?;
     expect_all(mutators, &gate, wanted)
@@ -269,21 +275,32 @@ fn expect_both<R: Abort + Threads + Sync>(
 ) -> Result<(), Fail> {
     same((trace.threads(), trace.globals()), (2, 1))?;
     let mut mutators = two_mutators(rt, alloc, trace);
-    expect_epoch(rt, alloc, &mut mutators, every, None, wanted, (used, None))
+    let nobody = Meeting::nowhere();
+    expect_epoch(
+        rt,
+        alloc,
+        &mut mutators,
+        every,
+        None,
+        nobody,
+        wanted,
+        (used, None),
+    )
 }
 
-/// The same, where the call of the first thread is made first, which was refused before. Compares also how many words
-/// it lacked.
+/// The same, where the call of the first thread is made first, which was refused before, and both meet behind it.
+/// Compares also how many words it lacked.
 fn expect_first<R: Abort + Threads + Sync>(
     rt: &R,
     alloc: Global,
     trace: &Trace,
+    meeting: Meeting,
     wanted: &[Wanted<'_>; 2],
     words: (u32, Option<u32>),
 ) -> Result<(), Fail> {
     same((trace.threads(), trace.globals()), (2, 1))?;
     let mut mutators = first_refused(rt, alloc, trace);
-    expect_epoch(rt, alloc, &mut mutators, 0, Some(0), wanted, words)
+    expect_epoch(rt, alloc, &mut mutators, 0, Some(0), meeting, wanted, words)
 }
 
 #[test]
@@ -339,7 +356,15 @@ fn all_go_on_after_a_first_call_that_is_answered(rt: HostRuntime) -> Result<(), 
         told: 1,
     };
     let trace = parse(rt.alloc(), text)?;
-    expect_first(&rt, rt.alloc(), &trace, &[first, second], (6, None))
+    let meeting = Meeting::of(2, [2, 1, 0, 0, 0, 0, 0, 0]);
+    expect_first(
+        &rt,
+        rt.alloc(),
+        &trace,
+        meeting,
+        &[first, second],
+        (6, None),
+    )
 }
 
 #[test]
@@ -357,5 +382,13 @@ fn no_other_runs_after_a_first_call_that_lacks_words(rt: HostRuntime) -> Result<
         told: 0,
     };
     let trace = parse(rt.alloc(), text)?;
-    expect_first(&rt, rt.alloc(), &trace, &[first, second], (64, Some(82)))
+    let nobody = Meeting::nowhere();
+    expect_first(
+        &rt,
+        rt.alloc(),
+        &trace,
+        nobody,
+        &[first, second],
+        (64, Some(82)),
+    )
 }

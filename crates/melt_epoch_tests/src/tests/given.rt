@@ -240,6 +240,11 @@ pub(super) fn told(logs: &[Log], thread: usize, at: usize) -> Option<LoggedCall>
     *logs.get(thread)?.get(at)?
 }
 
+/// The number in the object that a load found.
+pub(super) fn found(load: Option<LoggedCall>) -> Option<u64> {
+    load?.found
+}
+
 /// What call `at` of a thread came to.
 pub(super) fn result(logs: &[Log], thread: usize, at: usize) -> Option<Result<Reply, Refusal>> {
     Some(told(logs, thread, at)?.result)

@@ -1,5 +1,5 @@
-use super::calls::{gload, gstore, load, store};
-use super::given::{Before, Flaw, result, run_after, told};
+use super::calls::{get, gload, gstore, load, new, put, store};
+use super::given::{Before, Flaw, found, result, run_after, told};
 use crate::log::LoggedCall;
 use crate::play::Step::{self, Await, Call, Raise};
 use melt_core::Refusal;
@@ -17,11 +17,6 @@ fn is_within(call: Option<LoggedCall>, other: Option<LoggedCall>) -> bool {
         (Some(call), Some(other)) => other.begun < call.begun && call.ended < other.ended,
         _ => false,
     }
-}
-
-/// The number in the object that a load found.
-fn found(load: Option<LoggedCall>) -> Option<u64> {
-    load?.found
 }
 
 /// Object 1 refers to object 2. Global 0 holds the first, and global 1 the second, which is used, and so stays.
@@ -162,4 +157,34 @@ fn a_load_finds_what_was_stored_while_it_read_the_record(rt: HostRuntime) -> Res
         store_within(&rt, rt.alloc(), looked, stored, number)?;
     }
     Ok(())
+}
+
+/// How many calls the other thread makes before the first has found the home, and how many in all.
+const BESIDE: [usize; 2] = [2, 9];
+
+#[test]
+fn no_call_waits_for_a_load_that_reads_a_record(rt: HostRuntime) -> Result<(), Fail> {
+    let programs: [&[Step]; 2] = [
+        &[Call(gload(0, 0)), Call(load(3, 0, 0))],
+        &[
+            Call(gload(0, 0)),
+            Call(gload(1, 1)),
+            Await(0),
+            Call(new(2, 1, 1)),
+            Call(put(2, 0, 9)),
+            Call(get(2, 0)),
+            Call(store(2, 0, 1)),
+            Call(load(3, 2, 0)),
+            Call(gstore(3, 2)),
+            Call(gload(4, 3)),
+            Raise(1),
+        ],
+    ];
+    let left = run_after(&rt, rt.alloc(), &SLOT, Flaw::Waits(1), &programs, 3)?;
+    let looked = told(&left.seen.logs, 0, 1);
+    for at in BESIDE[0]..BESIDE[1] {
+        let beside = told(&left.seen.logs, 1, at);
+        same((at, is_within(beside, looked)), (at, true))?;
+    }
+    same((found(looked), left.returned), (Some(2), Some(1)))
 }

@@ -2,53 +2,43 @@ ghost use Rattle.melt_model.specs.Config.{InRanges};
 
 use super::*;
 use melt_disk::StaleSpace;
-use melt_io::SteadyDisk;
+use melt_io::{MemDisk, StaleDisk, SteadyDisk};
 use melt_model::{Config, Report};
 use melt_pool::run_threads;
 
-/// How often a thread looks for the other before it goes on without it.
-const HOLD: u32 = 100_000_000;
-
-/// A gate that holds each of two threads before its operation of this number, until the other has come there too. It
-/// counts the threads that it held in vain.
+/// A gate that counts what it is told of two threads. The first begins its second operation when the second begins its third,
+/// and the second its first when the first begins its second.
 #[derive(Drop)]
-struct Meeting {
-    at: u64,
-    came: [AtomicU64; 2],
-    missed: AtomicU64,
+struct InTurn {
+    told: [AtomicU64; 2],
 }
 
-impl Meeting {
-    fn new(at: u64) -> Meeting {
-        Meeting {
-            at,
-            came: [AtomicU64::new(0), AtomicU64::new(0)],
-            missed: AtomicU64::new(0),
+impl InTurn {
+    fn new() -> InTurn {
+        InTurn {
+            told: [AtomicU64::new(0), AtomicU64::new(0)],
         }
     }
 
-    /// Whether both threads came.
-    fn is_met(&self) -> bool {
-        self.came[0].load(Ordering::SeqCst) != 0 && self.came[1].load(Ordering::SeqCst) != 0
-    }
-
-    fn hold(&self) {
-        for _ in 0..HOLD {
-            if self.is_met() {
+    fn wait_for(&self, thread: usize, op: u64) {
+        for _ in 0..TURNS {
+            if op <= self.told[thread % 2].load(Ordering::SeqCst) {
                 return;
             }
+            thread::yield_now();
         }
-        self.missed.fetch_add(1, Ordering::SeqCst);
     }
 }
 
-impl Gate for Meeting {
+impl Gate for InTurn {
     fn before(&self, thread: u32, op: u64) {
-        match self.came.get(thread as usize) {
-            Some(came) if op == self.at => {
-                came.store(1, Ordering::SeqCst);
-                self.hold();
-            }
+        let Some(told) = self.told.get(thread as usize) else {
+            return;
+        };
+        told.store(op, Ordering::SeqCst);
+        match (thread, op) {
+            (0, 2) => self.wait_for(1, 3),
+            (1, 1) => self.wait_for(0, 2),
             _ => {}
         }
     }
@@ -68,85 +58,149 @@ fn leaving() -> Config
     }
 }
 
-/// Runs a trace by threads, over a disk that does not fail. Answers what is reported, and whether the heap was lost.
-fn run_over<X: Threads + Sync, G: Gate + Sync>(
+/// Runs a trace by threads over a disk. Answers what is reported, and whether the heap was lost.
+fn run_over<X: Threads + Sync, D: StaleDisk, G: Gate + Sync>(
     rt: &X,
     alloc: Global,
     text: &[u8],
+    disk: &mut D,
     gate: &G,
 ) -> Result<(Report, bool), Fail> {
     let trace = parse(alloc, text)?;
     let config = leaving();
-    let mut disk = SteadyDisk::new(alloc);
-    let mut space = StaleSpace::new(&mut disk, config.disk);
+    let mut space = StaleSpace::new(disk, config.disk);
     let (report, left) = run_threads(rt, alloc, &trace, config, &mut space, gate)?;
     Ok((report, left.is_none()))
 }
 
-/// Compares what the threads of a run were told, and that each of them came to its end, and how many Bodies the
-/// collection wrote that wrote most.
-fn same_replies(report: &Report, wanted: &[&[Reply]], bodies: Option<u32>) -> Result<(), Fail> {
+/// What a thread is told, and how it ends.
+type Told<'a> = (&'a [Reply], ThreadEnd);
+
+/// Compares what the threads of a run were told, and how many Bodies the collection wrote that wrote most.
+fn same_replies(report: &Report, wanted: &[Told<'_>], bodies: Option<u32>) -> Result<(), Fail> {
     same(report.threads.items.len(), wanted.len())?;
-    for (thread, replies) in report.threads.items.iter().zip(wanted) {
+    for (thread, (replies, end)) in report.threads.items.iter().zip(wanted) {
         let told = thread.replies.items.as_slice();
-        same((told, thread.end), (*replies, ThreadEnd::Done))?;
+        same((told, thread.end), (*replies, *end))?;
     }
     let most = report.journal.items.iter().map(|it| it.bodies).max();
     same((report.halt, most), (None, bodies))
 }
 
-/// Runs a trace by threads that meet before their operation of this number, and compares what they are told.
+/// Runs a trace by threads that meet, over a disk that does not fail, and compares what they are told.
 fn expect_run<X: Threads + Sync>(
     rt: &X,
     alloc: Global,
     text: &[u8],
-    at: u64,
-    wanted: &[&[Reply]],
+    meeting: &Meeting,
+    wanted: &[Told<'_>],
     bodies: Option<u32>,
 ) -> Result<(), Fail> {
-    let gate = Meeting::new(at);
-    let (report, lost) = run_over(rt, alloc, text, &gate)?;
-    same((lost, gate.missed.load(Ordering::SeqCst)), (false, 0))?;
+    let mut disk = SteadyDisk::new(alloc);
+    let (report, lost) = run_over(rt, alloc, text, &mut disk, meeting)?;
+    same((lost, meeting.missed()), (false, 0))?;
     same_replies(&report, wanted, bodies)
 }
 
+const DONE: Reply = Reply::Done;
+
 #[test]
-fn two_threads_are_in_one_epoch_at_once(rt: HostRuntime) -> Result<(), Fail> {
-    let text = b"melt 1\nthreads 2\nglobals 0\nthread 0\ndrop 0\ndone\nthread 1\ndrop 0\ndone\n";
-    let wanted = [[Reply::Done].as_slice(), [Reply::Done].as_slice()];
-    expect_run(&rt, rt.alloc(), text, 1, &wanted, None)
+fn eight_threads_are_in_one_epoch_at_once(rt: HostRuntime) -> Result<(), Fail> {
+    let text = b"melt 1\nthreads 8\nglobals 0\nthread 0\ndrop 0\ndone\nthread 1\ndrop 0\ndone\n\
+        thread 2\ndrop 0\ndone\nthread 3\ndrop 0\ndone\nthread 4\ndrop 0\ndone\nthread 5\ndrop 0\ndone\n\
+        thread 6\ndrop 0\ndone\nthread 7\ndrop 0\ndone\n";
+    let wanted: [Told<'_>; 8] = [(&[DONE], ThreadEnd::Done); 8];
+    expect_run(
+        &rt,
+        rt.alloc(),
+        text,
+        &Meeting::of(8, [1; 8]),
+        &wanted,
+        None,
+    )
+}
+
+#[test]
+fn a_gate_is_told_of_an_operation_before_it_is_made(rt: HostRuntime) -> Result<(), Fail> {
+    let text = b"melt 1\nthreads 2\nglobals 1\n\
+        thread 0\nnew 0 0 1\ngstore 0 0\ndrop 0\ndone\n\
+        thread 1\ndrop 1\ngload 0 0\ndrop 1\ndone\n";
+    let mut disk = SteadyDisk::new(rt.alloc());
+    let (report, _lost) = run_over(&rt, rt.alloc(), text, &mut disk, &InTurn::new())?;
+    let first = [DONE, DONE, DONE];
+    let second = [DONE, Reply::Null, DONE];
+    let wanted: [Told<'_>; 2] = [(&first, ThreadEnd::Done), (&second, ThreadEnd::Done)];
+    same_replies(&report, &wanted, None)
+}
+
+/// Two threads, each of which shares an object, lets it leave, and loads it again. Both have dropped their object before
+/// the first collection, so that one finds both stale.
+const LEAVING: &[u8] = b"melt 1\nthreads 2\nglobals 2\n\
+    thread 0\nnew 0 0 1\nput 0 0 7\ngstore 0 0\ndrop 0\n\
+    collect\ncollect\ncollect\ngload 0 0\nget 0 0\ndone\n\
+    thread 1\nnew 0 0 1\nput 0 0 8\ngstore 1 0\ndrop 0\n\
+    collect\ncollect\ncollect\ngload 0 1\nget 0 0\ndone\n";
+
+/// Where they meet.
+const BEFORE_COLLECTIONS: [u64; 8] = [5, 5, 0, 0, 0, 0, 0, 0];
+
+/// What a thread of these is told that found this number.
+const fn told_of(number: u64) -> [Reply; 9] {
+    [
+        DONE,
+        DONE,
+        DONE,
+        DONE,
+        DONE,
+        DONE,
+        DONE,
+        Reply::Ref,
+        Reply::Num(number),
+    ]
 }
 
 #[test]
 fn objects_of_two_threads_move_to_disk_and_come_back(rt: HostRuntime) -> Result<(), Fail> {
-    let text = b"melt 1\nthreads 2\nglobals 2\n\
-        thread 0\nnew 0 0 1\nput 0 0 7\ngstore 0 0\ndrop 0\n\
-        collect\ncollect\ncollect\ngload 0 0\nget 0 0\ndone\n\
-        thread 1\nnew 0 0 1\nput 0 0 8\ngstore 1 0\ndrop 0\n\
-        collect\ncollect\ncollect\ngload 0 1\nget 0 0\ndone\n";
-    let done = Reply::Done;
-    let first = [
-        done,
-        done,
-        done,
-        done,
-        done,
-        done,
-        done,
-        Reply::Ref,
-        Reply::Num(7),
+    let (first, second) = (told_of(7), told_of(8));
+    let wanted: [Told<'_>; 2] = [(&first, ThreadEnd::Done), (&second, ThreadEnd::Done)];
+    let meeting = Meeting::of(2, BEFORE_COLLECTIONS);
+    expect_run(&rt, rt.alloc(), LEAVING, &meeting, &wanted, Some(2))
+}
+
+/// A disk of which this lend has a reader whose first read fails.
+fn failing(alloc: Global, lend: u64) -> Result<MemDisk, Fail> {
+    let mut disk = MemDisk::new(alloc);
+    disk.fail_reads.push((lend, 1))?;
+    Ok(disk)
+}
+
+/// Runs them over such a disk, and compares what each is told. Nothing of the reader that failed is lost.
+fn expect_failed<X: Threads + Sync>(
+    rt: &X,
+    alloc: Global,
+    disk: &mut MemDisk,
+    wanted: &[Told<'_>],
+) -> Result<(), Fail> {
+    let meeting = Meeting::of(2, BEFORE_COLLECTIONS);
+    let (report, lost) = run_over(rt, alloc, LEAVING, disk, &meeting)?;
+    same((lost, meeting.missed(), disk.read_faults), (false, 0, 1))?;
+    same_replies(&report, wanted, Some(2))
+}
+
+#[test]
+fn readers_are_lent_to_threads_in_their_order(rt: HostRuntime) -> Result<(), Fail> {
+    let (first, second) = (told_of(7), told_of(8));
+    // Each of the four epochs lends two.
+    let mut disk = failing(rt.alloc(), 7)?;
+    let wanted: [Told<'_>; 2] = [
+        (&first[..7], ThreadEnd::DiskFault),
+        (&second, ThreadEnd::Done),
     ];
-    let second = [
-        done,
-        done,
-        done,
-        done,
-        done,
-        done,
-        done,
-        Reply::Ref,
-        Reply::Num(8),
+    expect_failed(&rt, rt.alloc(), &mut disk, &wanted)?;
+    let mut disk = failing(rt.alloc(), 8)?;
+    let wanted: [Told<'_>; 2] = [
+        (&first, ThreadEnd::Done),
+        (&second[..7], ThreadEnd::DiskFault),
     ];
-    // Both have dropped their object before the first collection, so that one finds both stale.
-    expect_run(&rt, rt.alloc(), text, 5, &[&first, &second], Some(2))
+    expect_failed(&rt, rt.alloc(), &mut disk, &wanted)
 }
