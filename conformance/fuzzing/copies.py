@@ -190,7 +190,8 @@ def stand_on(build, crate, names_by_number):
     """Lets a crate stand on what was added."""
     more = [f"{name}_w{number}" for number, names in names_by_number.items() for name in names]
     path = build.folder / "crates.txt"
-    path.write_text(re.sub(rf"(?m)^{crate}:.*$", lambda line: " ".join([line[0], *more]), path.read_text()))
+    line = f"{crate}: {' '.join([*build.deps[crate], *more])}"
+    path.write_text(re.sub(rf"(?m)^{crate}:.*$", line, path.read_text()))
 
 
 # ---------------------------------------------------------------- the program
@@ -205,7 +206,9 @@ def program_of(build, names_by_number, target):
     mods = "\n".join(f"mod top_w{number};" for number in names_by_number)
     arms = "\n".join(ARM.format(number=number) for number in names_by_number)
     (crate / "src/main.rt").write_text(MAIN.format(mods=mods, arms=arms, hold=HOLD))
-    (crate / "src/top.rt").unlink()
+    for path in ("top.rt", "tests.rt"):
+        (crate / "src" / path).unlink()
+    shutil.rmtree(crate / "src/tests")
     stand_on(build, "melt_top", names_by_number)
     cases = build.folder / "cases"
     cases.mkdir()
@@ -232,8 +235,8 @@ def program_of(build, names_by_number, target):
 
 def with_tests(build, crate, names_by_number):
     """Lets a crate of tests have those of each number, in a module of its own."""
-    source = build.crate(crate) / "src"
-    files = {path.relative_to(source): path.read_text() for path in source.rglob("*.rt")}
+    source, true_source = build.crate(crate) / "src", TOP / "crates" / crate / "src"
+    files = {path.relative_to(true_source): path.read_text() for path in true_source.rglob("*.rt")}
     shutil.rmtree(source)
     for number, names in names_by_number.items():
         for path, text in files.items():

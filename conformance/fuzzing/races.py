@@ -62,13 +62,11 @@ class Found:
     """What found a wrong program."""
 
     def __init__(self):
-        self.tests, self.by = [], {}
+        self.tests, self.by = {}, {}
 
     def text(self):
         parts = [f"{name}: {value}" for name, value in self.by.items()]
-        if self.tests:
-            parts.append(f"{len(self.tests)} tests: {', '.join(sorted(self.tests))}")
-        return "; ".join(parts)
+        return "; ".join(parts + [f"{name}: {', '.join(sorted(tests))}" for name, tests in self.tests.items()])
 
     def is_found(self):
         return bool(self.tests or self.by)
@@ -100,19 +98,19 @@ def judge_program(pool, program, number, given, found):
         found.by["the race of two threads"] = f"{threads.RACES} runs were alike"
 
 
-def judge_tests(build, names, founds):
-    """Runs the tests over each wrong program."""
+def judge_tests(build, names, founds, shift, by):
+    """Runs the tests over each wrong program, whose number is higher by so much."""
     for crate in TEST_CRATES:
-        numbers = {number: names[number] for number in (*founds, TRUE)}
+        numbers = {number + shift: names[number + shift] for number in (*founds, TRUE)}
         with_tests(build, crate, numbers)
         ended, text = tests_of(build, crate, SECONDS)
-        wrong = [name for (module, name), how in ended.items() if module == f"w{TRUE}" and how != "ok"]
+        wrong = [name for (module, name), how in ended.items() if module == f"w{TRUE + shift}" and how != "ok"]
         if wrong:
             print(f"{crate}: tests of the true program failed: {', '.join(wrong)}\n{text[-2000:]}", flush=True)
         for (module, name), how in ended.items():
-            number = int(module[1:])
-            if how != "ok" and number in founds and name not in wrong:
-                founds[number].tests.append(name.rpartition("::")[2])
+            found = founds.get(int(module[1:]) - shift)
+            if found and how != "ok" and name not in wrong:
+                found.tests.setdefault(by, []).append(name.rpartition("::")[2])
 
 
 def try_races(names, given):
@@ -138,7 +136,9 @@ def try_races(names, given):
                     print(f"{paths[number - 1].stem}: {found.text() or 'no run'}", flush=True)
                 run, said = first_judged(pool, [program, str(TRUE + SHAKEN)], given.seed, given.count)
                 print(f"the true program, shaken: {f'run {run} is WRONG: {said}' if run else f'none of {given.count} runs is wrong'}", flush=True)
-            judge_tests(build, crates, founds)
+            judge_tests(build, crates, founds, 0, "tests")
+            left = {number: found for number, found in founds.items() if not found.is_found()}
+            judge_tests(build, crates, left, SHAKEN, "shaken tests")
         except NoBuild as error:
             print(f"does not build: {error}")
             return True

@@ -109,15 +109,10 @@ fn eight_threads_are_in_one_epoch_at_once(rt: HostRuntime) -> Result<(), Fail> {
     let text = b"melt 1\nthreads 8\nglobals 0\nthread 0\ndrop 0\ndone\nthread 1\ndrop 0\ndone\n\
         thread 2\ndrop 0\ndone\nthread 3\ndrop 0\ndone\nthread 4\ndrop 0\ndone\nthread 5\ndrop 0\ndone\n\
         thread 6\ndrop 0\ndone\nthread 7\ndrop 0\ndone\n";
-    let wanted: [Told<'_>; 8] = [(&[DONE], ThreadEnd::Done); 8];
-    expect_run(
-        &rt,
-        rt.alloc(),
-        text,
-        &Meeting::of(8, [1; 8]),
-        &wanted,
-        None,
-    )
+    let replies = [DONE];
+    let wanted = [(replies.as_slice(), ThreadEnd::Done); 8];
+    let meeting = Meeting::of(8, [1; 8]);
+    expect_run(&rt, rt.alloc(), text, &meeting, &wanted, None)
 }
 
 #[test]
@@ -129,7 +124,10 @@ fn a_gate_is_told_of_an_operation_before_it_is_made(rt: HostRuntime) -> Result<(
     let (report, _lost) = run_over(&rt, rt.alloc(), text, &mut disk, &InTurn::new())?;
     let first = [DONE, DONE, DONE];
     let second = [DONE, Reply::Null, DONE];
-    let wanted: [Told<'_>; 2] = [(&first, ThreadEnd::Done), (&second, ThreadEnd::Done)];
+    let wanted = [
+        (first.as_slice(), ThreadEnd::Done),
+        (second.as_slice(), ThreadEnd::Done),
+    ];
     same_replies(&report, &wanted, None)
 }
 
@@ -162,20 +160,16 @@ const fn told_of(number: u64) -> [Reply; 9] {
 #[test]
 fn objects_of_two_threads_move_to_disk_and_come_back(rt: HostRuntime) -> Result<(), Fail> {
     let (first, second) = (told_of(7), told_of(8));
-    let wanted: [Told<'_>; 2] = [(&first, ThreadEnd::Done), (&second, ThreadEnd::Done)];
+    let wanted = [
+        (first.as_slice(), ThreadEnd::Done),
+        (second.as_slice(), ThreadEnd::Done),
+    ];
     let meeting = Meeting::of(2, BEFORE_COLLECTIONS);
     expect_run(&rt, rt.alloc(), LEAVING, &meeting, &wanted, Some(2))
 }
 
-/// A disk of which this lend has a reader whose first read fails.
-fn failing(alloc: Global, lend: u64) -> Result<MemDisk, Fail> {
-    let mut disk = MemDisk::new(alloc);
-    disk.fail_reads.push((lend, 1))?;
-    Ok(disk)
-}
-
-/// Runs them over such a disk, and compares what each is told. Nothing of the reader that failed is lost.
-fn expect_failed<X: Threads + Sync>(
+/// Runs them over a disk of which one read fails, and compares what each is told. The fault of its reader is counted.
+fn run_failing<X: Threads + Sync>(
     rt: &X,
     alloc: Global,
     disk: &mut MemDisk,
@@ -187,20 +181,26 @@ fn expect_failed<X: Threads + Sync>(
     same_replies(&report, wanted, Some(2))
 }
 
+/// Runs them over a disk of which this lend has a reader whose first read fails, and compares what each is told.
+fn expect_failed<X: Threads + Sync>(
+    rt: &X,
+    alloc: Global,
+    lend: u64,
+    wanted: &[Told<'_>],
+) -> Result<(), Fail> {
+    let mut disk = MemDisk::new(alloc);
+    disk.fail_reads.push((lend, 1))?;
+    run_failing(rt, alloc, &mut disk, wanted)
+}
+
 #[test]
 fn readers_are_lent_to_threads_in_their_order(rt: HostRuntime) -> Result<(), Fail> {
     let (first, second) = (told_of(7), told_of(8));
+    let failed = ThreadEnd::DiskFault;
+    let done = ThreadEnd::Done;
     // Each of the four epochs lends two.
-    let mut disk = failing(rt.alloc(), 7)?;
-    let wanted: [Told<'_>; 2] = [
-        (&first[..7], ThreadEnd::DiskFault),
-        (&second, ThreadEnd::Done),
-    ];
-    expect_failed(&rt, rt.alloc(), &mut disk, &wanted)?;
-    let mut disk = failing(rt.alloc(), 8)?;
-    let wanted: [Told<'_>; 2] = [
-        (&first, ThreadEnd::Done),
-        (&second[..7], ThreadEnd::DiskFault),
-    ];
-    expect_failed(&rt, rt.alloc(), &mut disk, &wanted)
+    let wanted = [(&first[..7], failed), (second.as_slice(), done)];
+    expect_failed(&rt, rt.alloc(), 7, &wanted)?;
+    let wanted = [(first.as_slice(), done), (&second[..7], failed)];
+    expect_failed(&rt, rt.alloc(), 8, &wanted)
 }
