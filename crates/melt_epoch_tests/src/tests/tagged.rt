@@ -15,60 +15,60 @@ use std::test::Fail;
 use std::thread::Threads;
 
 /// Three objects with their numbers, each held by the global of its number.
-const OBJECTS: [Op; 9] = [
-    new(1, 1, 1),
-    put(1, 0, 1),
-    gstore(1, 1),
-    new(2, 1, 1),
-    put(2, 0, 2),
-    gstore(2, 2),
-    new(3, 1, 1),
-    put(3, 0, 3),
-    gstore(3, 3),
-];
+fn objects() -> [Op; 9] {
+    [
+        new(1, 1, 1),
+        put(1, 0, 1),
+        gstore(1, 1),
+        new(2, 1, 1),
+        put(2, 0, 2),
+        gstore(2, 2),
+        new(3, 1, 1),
+        put(3, 0, 3),
+        gstore(3, 3),
+    ]
+}
 
 /// Lets object 1 refer to object 2 again.
-const RESET: [Op; 3] = [gload(1, 1), gload(2, 2), store(1, 0, 2)];
+fn reset() -> [Op; 3] {
+    [gload(1, 1), gload(2, 2), store(1, 0, 2)]
+}
 
-/// How often both are at once in each of the three ways; `bench/rounds` tries more.
-const ROUNDS: u32 = 100;
+/// Loads the slot.
+fn loads() -> [Step; 3] {
+    [Call(gload(1, 1)), Call(load(4, 1, 0)), Raise(0)]
+}
 
-/// The first thread loads the slot, and the second stores object 3 there, and loads it too when the first is done.
-const AT_ONCE: [&[Step]; 2] = [
-    &[Call(gload(1, 1)), Call(load(4, 1, 0)), Raise(0)],
-    &[
-        Call(gload(1, 1)),
-        Call(gload(3, 3)),
-        Call(store(1, 0, 3)),
-        Await(0),
-        Call(load(4, 1, 0)),
-    ],
-];
+/// Loads the slot when something was stored there.
+fn loads_last() -> [Step; 4] {
+    [Call(gload(1, 1)), Await(1), Call(load(4, 1, 0)), Raise(0)]
+}
 
-/// The same, where the store comes first.
-const STORED_FIRST: [&[Step]; 2] = [
-    &[Call(gload(1, 1)), Await(1), Call(load(4, 1, 0)), Raise(0)],
-    &[
+/// Stores object 3 in the slot, and loads it too when the other thread is done.
+fn stores() -> [Step; 6] {
+    [
         Call(gload(1, 1)),
         Call(gload(3, 3)),
         Call(store(1, 0, 3)),
         Raise(1),
         Await(0),
         Call(load(4, 1, 0)),
-    ],
-];
+    ]
+}
 
-/// The same, where the load comes first.
-const LOADED_FIRST: [&[Step]; 2] = [
-    &[Call(gload(1, 1)), Call(load(4, 1, 0)), Raise(0)],
-    &[
+/// The same when the other thread is done.
+fn stores_last() -> [Step; 5] {
+    [
         Call(gload(1, 1)),
         Call(gload(3, 3)),
         Await(0),
         Call(store(1, 0, 3)),
         Call(load(4, 1, 0)),
-    ],
-];
+    ]
+}
+
+/// How often both come to the slot in each order, and at once; `bench/rounds` tries more.
+const ROUNDS: u32 = 100;
 
 /// Looks that the load found one of these objects, and that nothing took back what was stored.
 fn find_stored(seen: &Seen, wanted: &[u64]) -> Result<(), Fail> {
@@ -87,26 +87,28 @@ fn load_and_store<'d, T: Threads + Wait + Sync>(
     rt: &T,
     alloc: Global,
     world: World<'d, MemDisk>,
-    programs: &[&[Step]; 2],
+    programs: [&[Step]; 2],
     wanted: &[u64],
 ) -> Result<World<'d, MemDisk>, Fail>
     requires { IsFormedOn world.heap [] world.disk.end }
     ensures { IfOk result (λ world. IsFormedOn world.heap [] world.disk.end) }
 {
-    let world = world.prepare(alloc, &RESET)?;
+    let world = world.prepare(alloc, &reset())?;
     let world = world.collect(alloc, Phase::Mark)?;
-    let Ended { seen, world } = run(rt, alloc, world, Flaw::Nothing, programs, 4)?;
+    let Ended { seen, world } = run(rt, alloc, world, Flaw::Nothing, &programs, 4)?;
     find_stored(&seen, wanted)?;
     Ok(world)
 }
 
 /// Lets both come to the slot again and again.
 fn race<T: Threads + Wait + Sync>(rt: &T, alloc: Global, disk: &mut MemDisk) -> Result<(), Fail> {
-    let mut world = World::new(alloc, disk, 1024, 512, 4, 4)?.prepare(alloc, &OBJECTS)?;
+    let (loads, loads_last) = (loads(), loads_last());
+    let (stores, stores_last) = (stores(), stores_last());
+    let mut world = World::new(alloc, disk, 1024, 512, 4, 4)?.prepare(alloc, &objects())?;
     for _round in 0..ROUNDS {
-        world = load_and_store(rt, alloc, world, &AT_ONCE, &[2, 3])?;
-        world = load_and_store(rt, alloc, world, &STORED_FIRST, &[3])?;
-        world = load_and_store(rt, alloc, world, &LOADED_FIRST, &[2])?;
+        world = load_and_store(rt, alloc, world, [&loads, &stores], &[2, 3])?;
+        world = load_and_store(rt, alloc, world, [&loads_last, &stores], &[3])?;
+        world = load_and_store(rt, alloc, world, [&loads, &stores_last], &[2])?;
     }
     Ok(())
 }
