@@ -6,6 +6,9 @@ use std::thread;
 /// How often a thread looks for another before it goes on without it.
 pub(super) const TURNS: u32 = 1_000_000;
 
+/// How often one that is held does, before the test fails.
+const HOLD: u32 = 100_000_000;
+
 /// A gate that holds each thread before its operation of one number, until so many have come there. It counts the threads
 /// that it held in vain.
 #[derive(Drop)]
@@ -42,7 +45,7 @@ impl Meeting {
     }
 
     fn hold(&self) {
-        for _ in 0..TURNS {
+        for _ in 0..HOLD {
             if self.threads <= self.came.load(Ordering::SeqCst) {
                 return;
             }
